@@ -10,7 +10,8 @@ use Rattle.turn_cell.specs.declared.view.Stage.TheVariants.{Idle, Waiting, Holdi
 use Rattle.turn_cell.specs.History.{own, tag, Turned}
 use Rattle.turn_cell.specs.Transitions.{Draws, HasTurn, after_turn}
 use Rattle.turn_cell.specs.Passes.{IsPassOf, IsTurn, low, high, made, seen}
-use Rattle.turn_cell.proofs.Lists.{own-append, own-tag_other, room}
+use Rattle.turn_cell.proofs.OwnEntries.{own-append, own-tag_other}
+use Rattle.turn_cell.proofs.HistoryLength.{room}
 
 module _ {O C R E : Type 0} (stands_for : O → O → List (ℕ × E) → Type 0) (entries : C → R → List E) (admits : O → ℕ → List E → C → Type 0) (c : Cell O C R E) where
   abbrev M : Type 0

@@ -12,8 +12,8 @@ use Rattle.turn_cell.specs.History.{StartsWith, longer, own}
 use Rattle.turn_cell.specs.Invariant.{Has, is_worn}
 use Rattle.turn_cell.specs.Transitions.{joined, lower, upper}
 use Rattle.turn_cell.specs.Passes.{IsPassOf, IsSplit, IsJoined, Adjoin}
-use Rattle.turn_cell.proofs.Lists.{own-append}
-use Rattle.turn_cell.proofs.Parts.{own-below, own-below_none, own-above, own-above_none}
+use Rattle.turn_cell.proofs.OwnEntries.{own-append}
+use Rattle.turn_cell.proofs.OwnEntries.{own-below, own-below_none, own-above, own-above_none}
 
 module _ {O C R E : Type 0} (c : Cell O C R E) where
   abbrev M : Type 0
@@ -46,9 +46,9 @@ module _ {O C R E : Type 0} (c : Cell O C R E) where
     stage = ap (λ (m : M). m.0.stage) e ∙ i.stage ∙ sym (ap (λ (b : Bool). cond b Worn Idle) worn);
   }
 
-  pub splits : (p a b : Pass O C R E) (w : ℕ) → IsPassOf c p → a.seat.table_id ≡ p.seat.table_id → b.seat.table_id ≡ p.seat.table_id → a.worn ≡ p.worn → b.worn ≡ p.worn
+  pub split_passes : (p a b : Pass O C R E) (w : ℕ) → IsPassOf c p → a.seat.table_id ≡ p.seat.table_id → b.seat.table_id ≡ p.seat.table_id → a.worn ≡ p.worn → b.worn ≡ p.worn
       → a.seat.me ≡ (lower w p.seat.me.0, p.seat.me.1) → b.seat.me ≡ (upper w p.seat.me.0, []) → p.seat.me.0.low < w → w < p.seat.me.0.high → IsSplit c w p a b
-  splits p a b w i ta tb wa wb ea eb lo hi = record {
+  split_passes p a b w i ta tb wa wb ea eb lo hi = record {
     passes = (lower_pass p a w i ta wa ea lo hi, upper_pass p b w i tb wb eb lo hi);
     numbers = (ap (λ (m : M). m.0.low) ea, ap (λ (m : M). m.0.high) ea, ap (λ (m : M). m.0.low) eb, ap (λ (m : M). m.0.high) eb);
     seen_same = (ap (λ (m : M). m.0.seen) ea, ap (λ (m : M). m.0.seen) eb);
@@ -67,10 +67,10 @@ module _ {O C R E : Type 0} (c : Cell O C R E) where
   either_is true xs ys = inr refl
   either_is false xs ys = inl refl
 
-  pub joins : (a b p : Pass O C R E) → IsPassOf c a → IsPassOf c b → Adjoin a b → p.seat.table_id ≡ a.seat.table_id → p.worn ≡ a.worn || b.worn
+  pub join_passes : (a b p : Pass O C R E) → IsPassOf c a → IsPassOf c b → Adjoin a b → p.seat.table_id ≡ a.seat.table_id → p.worn ≡ a.worn || b.worn
       → p.seat.me.0 ≡ record (joined a.seat.me.0 b.seat.me.0) { seen = longer a.seat.me.0.seen b.seat.me.0.seen; other_seen = [] } → p.seat.me.1 ≡ []
       → StartsWith (longer a.seat.me.0.seen b.seat.me.0.seen) a.seat.me.0.seen → StartsWith (longer a.seat.me.0.seen b.seat.me.0.seen) b.seat.me.0.seen → IsJoined c a b p
-  joins a b p i j meet t worn e bare first second = record {
+  join_passes a b p i j meet t worn e bare first second = record {
     pass = record {
       table = t ∙ i.table;
       key = ap (λ (v : V). v.key) e ∙ i.key;
