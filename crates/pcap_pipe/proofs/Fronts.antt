@@ -12,7 +12,7 @@ use Rattle.pcap_pipe.specs.declared.form.Form.{Form}
 use Rattle.pcap_pipe.specs.declared.front.Front.{Front}
 use Rattle.pcap_pipe.specs.declared.front.Front.TheVariants as front
 use Rattle.pcap_pipe.specs.Classic.{form_of, captured}
-use Rattle.pcap_pipe.specs.Reading.{header_front, unit_front}
+use Rattle.pcap_pipe.specs.Reading.{header_front, record_front}
 
 -- a field doesn't see what comes behind it
 pub field-append : (order : Order) (w : Width) (text more : List ℕ) (at : ℕ) → at + byte_len w ≤ length text → field order w (text ++ more) at ≡ field order w text at
@@ -22,37 +22,37 @@ field-append order w text more at le =
     let e : take (byte_len w) (drop at (text ++ more)) ≡ take (byte_len w) (drop at text) = rw (drop-append-le at text more inside, take-append-le (byte_len w) (drop at text) more room) refl in
     ap (λ (bytes : List ℕ). number order w bytes) e
 
-abbrev unit_chain : Bool → Bool → Bool → Bool → Form → ℕ → Front
-unit_chain a b c d form len = cond a front.Ended (cond b front.Cut (cond c (front.Wrong Captured) (cond d front.Cut (front.Whole form len))))
+abbrev record_chain : Bool → Bool → Bool → Bool → Form → ℕ → Front
+record_chain a b c d form len = cond a front.Ended (cond b front.Cut (cond c (front.Wrong Captured) (cond d front.Cut (front.Whole form len))))
 
-unit_chain-whole : (a b c d : Bool) (form same : Form) (len k : ℕ) → unit_chain a b c d form len ≡ front.Whole same k → (a ≡ false) × (b ≡ false) × (c ≡ false) × (d ≡ false) × (same ≡ form) × (k ≡ len)
-unit_chain-whole true b c d form same len k e = absurd cc
-unit_chain-whole false true c d form same len k e = absurd cc
-unit_chain-whole false false true d form same len k e = absurd cc
-unit_chain-whole false false false true form same len k e = absurd cc
-unit_chain-whole false false false false form same len k e = (refl, refl, refl, refl, cc, cc)
+record_chain-whole : (a b c d : Bool) (form same : Form) (len k : ℕ) → record_chain a b c d form len ≡ front.Whole same k → (a ≡ false) × (b ≡ false) × (c ≡ false) × (d ≡ false) × (same ≡ form) × (k ≡ len)
+record_chain-whole true b c d form same len k e = absurd cc
+record_chain-whole false true c d form same len k e = absurd cc
+record_chain-whole false false true d form same len k e = absurd cc
+record_chain-whole false false false true form same len k e = absurd cc
+record_chain-whole false false false false form same len k e = (refl, refl, refl, refl, cc, cc)
 
-unit_chain-wrong : (a b c d : Bool) (form : Form) (len : ℕ) (code : Code) → unit_chain a b c d form len ≡ front.Wrong code → (a ≡ false) × (b ≡ false) × (c ≡ true) × (code ≡ Captured)
-unit_chain-wrong true b c d form len code e = absurd cc
-unit_chain-wrong false true c d form len code e = absurd cc
-unit_chain-wrong false false true d form len code e = (refl, refl, refl, cc)
-unit_chain-wrong false false false true form len code e = absurd cc
-unit_chain-wrong false false false false form len code e = absurd cc
+record_chain-wrong : (a b c d : Bool) (form : Form) (len : ℕ) (code : Code) → record_chain a b c d form len ≡ front.Wrong code → (a ≡ false) × (b ≡ false) × (c ≡ true) × (code ≡ Captured)
+record_chain-wrong true b c d form len code e = absurd cc
+record_chain-wrong false true c d form len code e = absurd cc
+record_chain-wrong false false true d form len code e = (refl, refl, refl, cc)
+record_chain-wrong false false false true form len code e = absurd cc
+record_chain-wrong false false false false form len code e = absurd cc
 
--- what a whole unit is
-pub record WholeUnit (form same : Form) (text : List ℕ) (k : ℕ) : Type 0 where
+-- what a whole packet record is
+pub record WholeRecord (form same : Form) (text : List ℕ) (k : ℕ) : Type 0 where
   pub same_form : same ≡ form
   pub len : k ≡ 16 + captured form text
   pub within : k ≤ length text
   pub least : 16 ≤ k
   pub small : captured form text ≤ 262144
 
-pub whole_unit : (form same : Form) (text : List ℕ) (k : ℕ) → unit_front form text ≡ front.Whole same k → WholeUnit form same text k
-unfolding unit_front
-whole_unit form same text k e =
+pub whole_record : (form same : Form) (text : List ℕ) (k : ℕ) → record_front form text ≡ front.Whole same k → WholeRecord form same text k
+unfolding record_front
+whole_record form same text k e =
     let n = length text in
     let cap = captured form text in
-    let p = unit_chain-whole (eqb n 0) (ltb n 16) (ltb 262144 cap) (ltb n (16 + cap)) form same (16 + cap) k e in
+    let p = record_chain-whole (eqb n 0) (ltb n 16) (ltb 262144 cap) (ltb n (16 + cap)) form same (16 + cap) k e in
     let long : 16 + cap ≤ n = ltb-false n (16 + cap) p.3 in
     let small : cap ≤ 262144 = ltb-false 262144 cap p.2 in
     let len : k ≡ 16 + cap = p.5 in
@@ -62,10 +62,10 @@ pub captured-append : (form : Form) (text more : List ℕ) → 16 ≤ length tex
 unfolding captured
 captured-append form text more le = field-append form.order w32 text more 8 (omega arith)
 
-pub whole_unit-append : (form same : Form) (text more : List ℕ) (k : ℕ) → unit_front form text ≡ front.Whole same k → unit_front form (text ++ more) ≡ front.Whole same k
-unfolding unit_front
-whole_unit-append form same text more k e =
-    let w = whole_unit form same text k e in
+pub whole_record-append : (form same : Form) (text more : List ℕ) (k : ℕ) → record_front form text ≡ front.Whole same k → record_front form (text ++ more) ≡ front.Whole same k
+unfolding record_front
+whole_record-append form same text more k e =
+    let w = whole_record form same text k e in
     let n = length text in
     let m = length (text ++ more) in
     let longer : n ≤ m = omega (arith, length-append text more) in
@@ -79,12 +79,12 @@ whole_unit-append form same text more k e =
     let d : ltb m (16 + captured form text) ≡ false = le-ltb m (16 + captured form text) (omega arith) in
     rw (cap, a, b, c, d, w.same_form, w.len) refl
 
-pub wrong_unit-append : (form : Form) (text more : List ℕ) (code : Code) → unit_front form text ≡ front.Wrong code → unit_front form (text ++ more) ≡ front.Wrong code
-unfolding unit_front
-wrong_unit-append form text more code e =
+pub wrong_record-append : (form : Form) (text more : List ℕ) (code : Code) → record_front form text ≡ front.Wrong code → record_front form (text ++ more) ≡ front.Wrong code
+unfolding record_front
+wrong_record-append form text more code e =
     let n = length text in
     let cap0 = captured form text in
-    let p = unit_chain-wrong (eqb n 0) (ltb n 16) (ltb 262144 cap0) (ltb n (16 + cap0)) form (16 + cap0) code e in
+    let p = record_chain-wrong (eqb n 0) (ltb n 16) (ltb 262144 cap0) (ltb n (16 + cap0)) form (16 + cap0) code e in
     let m = length (text ++ more) in
     let longer : n ≤ m = omega (arith, length-append text more) in
     let least : 16 ≤ n = ltb-false n 16 p.1 in
@@ -190,21 +190,21 @@ pub never_ended : (text : List ℕ) → header_front text ≡ front.Ended → �
 unfolding header_front
 never_ended text e = header_chain-ended (ltb (length text) 4) (form_of (take 4 text)) (ltb (length text) 24) (λ form. eqb (field form.order w16 text 4) 2) e
 
-unit_chain-ended : (a b c d : Bool) (form : Form) (len : ℕ) → unit_chain a b c d form len ≡ front.Ended → a ≡ true
-unit_chain-ended true b c d form len e = refl
-unit_chain-ended false true c d form len e = absurd cc
-unit_chain-ended false false true d form len e = absurd cc
-unit_chain-ended false false false true form len e = absurd cc
-unit_chain-ended false false false false form len e = absurd cc
+record_chain-ended : (a b c d : Bool) (form : Form) (len : ℕ) → record_chain a b c d form len ≡ front.Ended → a ≡ true
+record_chain-ended true b c d form len e = refl
+record_chain-ended false true c d form len e = absurd cc
+record_chain-ended false false true d form len e = absurd cc
+record_chain-ended false false false true form len e = absurd cc
+record_chain-ended false false false false form len e = absurd cc
 
-unit_chain-cut : (a b c d : Bool) (form : Form) (len : ℕ) → unit_chain a b c d form len ≡ front.Cut → a ≡ false
-unit_chain-cut true b c d form len e = absurd cc
-unit_chain-cut false b c d form len e = refl
+record_chain-cut : (a b c d : Bool) (form : Form) (len : ℕ) → record_chain a b c d form len ≡ front.Cut → a ≡ false
+record_chain-cut true b c d form len e = absurd cc
+record_chain-cut false b c d form len e = refl
 
-pub unit_ended : (form : Form) (text : List ℕ) → unit_front form text ≡ front.Ended → length text ≡ 0
-unfolding unit_front
-unit_ended form text e = eqb-true (length text) 0 (unit_chain-ended _ _ _ _ _ _ e)
+pub record_ended : (form : Form) (text : List ℕ) → record_front form text ≡ front.Ended → length text ≡ 0
+unfolding record_front
+record_ended form text e = eqb-true (length text) 0 (record_chain-ended _ _ _ _ _ _ e)
 
-pub unit_cut : (form : Form) (text : List ℕ) → unit_front form text ≡ front.Cut → length text ≡ 0 → ⊥
-unfolding unit_front
-unit_cut form text e = eqb-false (length text) 0 (unit_chain-cut _ _ _ _ _ _ e)
+pub record_cut : (form : Form) (text : List ℕ) → record_front form text ≡ front.Cut → length text ≡ 0 → ⊥
+unfolding record_front
+record_cut form text e = eqb-false (length text) 0 (record_chain-cut _ _ _ _ _ _ e)

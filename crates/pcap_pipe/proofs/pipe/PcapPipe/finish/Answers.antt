@@ -1,7 +1,7 @@
 use Rattle.std.proofs.Common.{◌≡◌, ℕ, List, length, eqb, true, false, ap, sym, refl, ◌∙◌}
 use Rattle.cap_base.specs.declared.endings.How.TheVariants as how
 use Rattle.pcap_pipe.specs.Pipe.{Pipe}
-use Rattle.pcap_pipe.proofs.Going.{is_broken, unit_rests, header_rests}
+use Rattle.pcap_pipe.proofs.Going.{is_broken, record_rests, header_rests}
 use Rattle.pcap_pipe.proofs.pipe.PcapPipe.finish.Goals as goal
 
 pub returns-in-Broken-clause-ends : goal.returns-in-Broken-clause-ends
@@ -19,7 +19,7 @@ returns-then-is_empty-clause-ends c =
     let at : c.self.inside.place ≡ old.place = ap (λ (p : Pipe). p.place) c.self.view_is in
     let text-is : c.bytes_from.result.now ≡ old.kept = c.bytes_from.ensures ∙ ap (λ (p : Pipe). p.kept) c.self.view_is in
     let test : eqb (length old.kept) 0 ≡ true = ap (λ (t : List ℕ). eqb (length t) 0) (sym text-is) ∙ sym c.is_empty.ensures ∙ c.if-is_empty.true in
-    unit_rests old c.in-Units.field-0 how.Clean (sym (ap (λ (p : Pipe). p.stage) c.self.view_is) ∙ c.in-Units.is) c.requires (rw test refl)
+    record_rests old c.in-Records.field-0 how.Clean (sym (ap (λ (p : Pipe). p.stage) c.self.view_is) ∙ c.in-Records.is) c.requires (rw test refl)
 
 pub returns-else-is_empty-clause-ends : goal.returns-else-is_empty-clause-ends
 returns-else-is_empty-clause-ends c =
@@ -27,4 +27,4 @@ returns-else-is_empty-clause-ends c =
     let at : c.self.inside.place ≡ old.place = ap (λ (p : Pipe). p.place) c.self.view_is in
     let text-is : c.bytes_from.result.now ≡ old.kept = c.bytes_from.ensures ∙ ap (λ (p : Pipe). p.kept) c.self.view_is in
     let test : eqb (length old.kept) 0 ≡ false = ap (λ (t : List ℕ). eqb (length t) 0) (sym text-is) ∙ sym c.is_empty.ensures ∙ c.if-is_empty.false in
-    unit_rests old c.in-Units.field-0 (how.Cut c.self.inside.place) (sym (ap (λ (p : Pipe). p.stage) c.self.view_is) ∙ c.in-Units.is) c.requires (rw test (ap how.Cut at))
+    record_rests old c.in-Records.field-0 (how.Cut c.self.inside.place) (sym (ap (λ (p : Pipe). p.stage) c.self.view_is) ∙ c.in-Records.is) c.requires (rw test (ap how.Cut at))

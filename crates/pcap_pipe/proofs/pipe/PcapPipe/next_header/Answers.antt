@@ -2,7 +2,7 @@ use Rattle.std.proofs.Common.{◌≡◌, ℕ, ◌+◌, List, take, drop, ap, sym
 use Rattle.std.proofs.lemmas.List.{drop-drop}
 use Rattle.cap_base.specs.declared.endings.How.TheVariants as how
 use Rattle.pcap_pipe.specs.declared.front.Front.TheVariants as front
-use Rattle.pcap_pipe.specs.declared.stage.Stage.TheVariants.{Units, Broken}
+use Rattle.pcap_pipe.specs.declared.stage.Stage.TheVariants.{Records, Broken}
 use Rattle.pcap_pipe.specs.Classic.{interface_of}
 use Rattle.pcap_pipe.specs.Reading.{header_front}
 use Rattle.pcap_pipe.specs.Pipe.{Pipe}
@@ -15,7 +15,7 @@ returns-in_ok-iface-in-Whole-clause-step c =
     let inside = c.self.inside in
     let len = c.in-Whole.len in
     let form = c.in-Whole.form in
-    let new : Pipe = record { name = inside.name; stage = Units form; place = inside.place + len; kept = drop (inside.start + len) inside.buffer.items } in
+    let new : Pipe = record { name = inside.name; stage = Records form; place = inside.place + len; kept = drop (inside.start + len) inside.buffer.items } in
     let kept-is : drop inside.start inside.buffer.items ≡ old.kept = ap (λ (p : Pipe). p.kept) c.self.view_is in
     let text-is : c.bytes_from-text.result.now ≡ old.kept = c.bytes_from-text.ensures ∙ kept-is in
     let is : header_front old.kept ≡ front.Whole form len = ap header_front (sym text-is) ∙ sym c.header_front_of.ensures.front ∙ c.in-Whole.is in
