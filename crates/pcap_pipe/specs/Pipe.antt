@@ -1,13 +1,14 @@
 -- What a pipe keeps, and the bytes and events that it stands for.
-use Rattle.std.specs.Prelude.{ℕ, ◌≡◌, ◌≤◌, ◌<◌, ◌+◌, ◌-◌, List, [], ◌∷◌, ◌++◌, length, min, ◌==◌, if◌then◌else◌, Bool, true, false}
+use Rattle.std.specs.Prelude.{ℕ, ◌≡◌, ◌≤◌, ◌<◌, ◌+◌, ◌-◌, List, [], ◌∷◌, ◌++◌, length, drop, min, ◌==◌, if◌then◌else◌, Bool, true, false}
 use Rattle.cap_base.specs.Events.{Event, interface, packet}
+use Rattle.cap_base.specs.declared.endings.Code.{Code}
 use Rattle.cap_base.specs.declared.endings.How.{How}
 use Rattle.cap_base.specs.declared.endings.How.TheVariants as how
 use Rattle.cap_base.specs.declared.steps.Step.{Step}
 use Rattle.cap_base.specs.declared.steps.Step.TheVariants as step
 use Rattle.pcap_pipe.specs.declared.stage.Stage.{Stage}
-use Rattle.pcap_pipe.specs.declared.stage.Stage.TheVariants.{Header, Units, Broken}
-use Rattle.pcap_pipe.specs.Reading.{Reading, with_front, units_in, header_in, reading, events, ending}
+use Rattle.pcap_pipe.specs.declared.stage.Stage.TheVariants.{Header, Records, Broken}
+use Rattle.pcap_pipe.specs.Reading.{Reading, with_front, records_in, header_in, reading, events, ending}
 
 pub record Pipe : Type 0 where
   pub name : List ℕ
@@ -18,7 +19,7 @@ pub record Pipe : Type 0 where
 -- how the reading goes on, over the bytes that come
 unfoldable pub continues : List ℕ → Stage → ℕ → List ℕ → Reading
 continues name Header at text = header_in name at text
-continues name (Units form) at text = units_in form at text
+continues name (Records form) at text = records_in form at text
 continues name (Broken code) at text = ([], how.Bad code at)
 
 -- how many bytes were fed
@@ -43,8 +44,21 @@ IsDrained pipe = ((continues pipe.name pipe.stage pipe.place pipe.kept).0 ≡ []
   where
     Rests : Stage → How → Type 0
     Rests Header end = IsOpen end
-    Rests (Units form) end = IsOpen end
+    Rests (Records form) end = IsOpen end
     Rests (Broken code) end = Unit {0}
+
+-- no defect was met
+abbrev pub is_reading : Pipe → Bool
+is_reading pipe = by_stage pipe.stage
+  where
+    by_stage : Stage → Bool
+    by_stage Header = true
+    by_stage (Records form) = true
+    by_stage (Broken code) = false
+
+-- The kept bytes hold no whole file header or packet record and no defect, and none was met.
+abbrev pub IsWaiting : Pipe → Type 0
+IsWaiting pipe = (is_reading pipe ≡ true) × IsDrained pipe
 
 -- the ending, where nothing is to come: the defect, or Clean behind a header with no byte left, or Cut
 abbrev pub ending_of_rest : Pipe → How
@@ -52,8 +66,22 @@ ending_of_rest pipe = by_stage pipe.stage
   where
     by_stage : Stage → How
     by_stage Header = how.Cut pipe.place
-    by_stage (Units form) = if length pipe.kept == 0 then how.Clean else how.Cut pipe.place
+    by_stage (Records form) = if length pipe.kept == 0 then how.Clean else how.Cut pipe.place
     by_stage (Broken code) = how.Bad code pipe.place
+
+-- the pipe reads on behind the first bytes that were kept
+pub record Passes (len : ℕ) (next : Stage) (old new : Pipe) : Type 0 where
+  pub name : new.name ≡ old.name
+  pub stage : new.stage ≡ next
+  pub place : new.place ≡ old.place + len
+  pub kept : new.kept ≡ drop len old.kept
+
+-- the pipe has met a defect
+pub record Breaks (code : Code) (old new : Pipe) : Type 0 where
+  pub name : new.name ≡ old.name
+  pub stage : new.stage ≡ Broken code
+  pub place : new.place ≡ old.place
+  pub kept : new.kept ≡ old.kept
 
 -- these bytes were fed
 abbrev pub Feeds : Pipe → Pipe → List ℕ → Type 0
@@ -78,15 +106,6 @@ Steps old new (step.Bad code at) = Gives old new [] × IsDrained new × EndsAs n
 abbrev pub fresh : List ℕ → Pipe
 fresh name = record { name = name; stage = Header; place = 0; kept = [] }
 
--- no defect was met
-abbrev pub is_reading : Pipe → Bool
-is_reading pipe = by_stage pipe.stage
-  where
-    by_stage : Stage → Bool
-    by_stage Header = true
-    by_stage (Units form) = true
-    by_stage (Broken code) = false
-
 -- how many of so many bytes it takes: none after a defect
 abbrev pub room_for : Pipe → ℕ → ℕ
 room_for pipe len = if is_reading pipe then min len (16842752 - length pipe.kept) else 0
@@ -96,7 +115,7 @@ abbrev pub with_kept : Pipe → List ℕ → Pipe
 with_kept pipe more = record pipe { kept = pipe.kept ++ more }
 
 -- What is known of a step besides: each event takes bytes, an interface has the source's name, and nothing that is
--- given has notes. Where more is needed, less than the longest unit is kept.
+-- given has notes. Where more is needed, less than the longest packet record is kept.
 abbrev pub IsLawful : Pipe → Pipe → Step → Type 0
 IsLawful old new (step.Iface i) = (old.place + 24 ≤ new.place) × (i.name ≡ old.name) × (i.notes ≡ []) × (i.resol ≤ 9)
 IsLawful old new (step.Packet p) = (old.place + 16 ≤ new.place) × (p.notes ≡ []) × (length p.body ≤ 262144)
