@@ -34,6 +34,7 @@ pub trait Outlet: Send {
         ensures file { OnOk result (has_file self.new ≡ true) }
         ensures no_file { OnErr result (has_file self.new ≡ false) }
         ensures cause { HasCause (file_faults self.old) (file_faults self.new) result }
+        ensures uncounted { OnOk result (file_faults self.new ≡ file_faults self.old) }
         ensures other { say_faults self.old ≡ say_faults self.new };
 
     /// Adds bytes from the front of the piece at the end of the current file, and answers how many: at least one of a
@@ -46,6 +47,7 @@ pub trait Outlet: Send {
         ensures done { Leads stands_for self.old self.new (file_bytes (accepted result piece.now)) }
         ensures file { has_file self.new ≡ true }
         ensures cause { HasCause (file_faults self.old) (file_faults self.new) result }
+        ensures uncounted { OnOk result (file_faults self.new ≡ file_faults self.old) }
         ensures other { say_faults self.old ≡ say_faults self.new };
 
     /// Closes the current file. A file must be current.
@@ -58,6 +60,7 @@ pub trait Outlet: Send {
         ensures file { OnOk result (has_file self.new ≡ false) }
         ensures still { OnErr result (has_file self.new ≡ true) }
         ensures cause { HasCause (file_faults self.old) (file_faults self.new) result }
+        ensures uncounted { OnOk result (file_faults self.new ≡ file_faults self.old) }
         ensures other { say_faults self.old ≡ say_faults self.new };
 
     /// Removes a file, where there is one of this name.
@@ -68,6 +71,7 @@ pub trait Outlet: Send {
         ensures err { OnErr result (Leads stands_for self.old self.new []) }
         ensures file { has_file self.new ≡ has_file self.old }
         ensures cause { HasCause (file_faults self.old) (file_faults self.new) result }
+        ensures uncounted { OnOk result (file_faults self.new ≡ file_faults self.old) }
         ensures other { say_faults self.old ≡ say_faults self.new };
 
     /// Says bytes of a message from the front of the piece, and answers how many: at least one of a piece that isn't
@@ -79,6 +83,7 @@ pub trait Outlet: Send {
         ensures done { Leads stands_for self.old self.new (saying (accepted result piece.now)) }
         ensures file { has_file self.new ≡ has_file self.old }
         ensures cause { HasCause (say_faults self.old) (say_faults self.new) result }
+        ensures uncounted { OnOk result (say_faults self.new ≡ say_faults self.old) }
         ensures other { file_faults self.old ≡ file_faults self.new };
 }
 
