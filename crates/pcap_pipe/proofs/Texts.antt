@@ -11,16 +11,16 @@ use Rattle.pcap_pipe.specs.declared.form.Form.{Form}
 use Rattle.pcap_pipe.specs.declared.front.Front.{Front}
 use Rattle.pcap_pipe.specs.declared.front.Front.TheVariants as front
 use Rattle.cap_base.specs.declared.endings.How.TheVariants as how
-use Rattle.pcap_pipe.specs.Classic.{captured, packet_of, IsHeader, IsUnit, IsUnits, HasNoUnit, Classic}
-use Rattle.pcap_pipe.specs.Reading.{Reading, header_front, unit_front, units_in, header_in, reading, events, ending}
-use Rattle.pcap_pipe.proofs.Fronts.{field-append, captured-append, whole_unit, whole_unit-append, whole_header, whole_header-append, wrong_unit-append, wrong_header-append}
+use Rattle.pcap_pipe.specs.Classic.{captured, packet_of, IsHeader, IsRecord, AreRecords, HasNoRecord, Classic}
+use Rattle.pcap_pipe.specs.Reading.{Reading, header_front, record_front, records_in, header_in, reading, events, ending}
+use Rattle.pcap_pipe.proofs.Fronts.{field-append, captured-append, whole_record, whole_record-append, whole_header, whole_header-append, wrong_record-append, wrong_header-append}
 use Rattle.cap_base.specs.declared.endings.Code.{Code}
-use Rattle.pcap_pipe.proofs.Going.{unit_step, unit_stops, header_step, header_stops}
+use Rattle.pcap_pipe.proofs.Going.{record_step, record_stops, header_step, header_stops}
 
--- a lawful unit is whole, whatever follows it
-unit_is_whole : (form : Form) (first more : List ℕ) (p : Packet) → IsUnit form first p → unit_front form (first ++ more) ≡ front.Whole form (length first)
-unfolding unit_front
-unit_is_whole form first more p u =
+-- a lawful packet record is whole, whatever follows it
+record_is_whole : (form : Form) (first more : List ℕ) (p : Packet) → IsRecord form first p → record_front form (first ++ more) ≡ front.Whole form (length first)
+unfolding record_front
+record_is_whole form first more p u =
     let len : length first ≡ 16 + captured form first = u.len in
     let small : captured form first ≤ 262144 = u.small in
     let cap : captured form (first ++ more) ≡ captured form first = captured-append form first more (omega arith) in
@@ -32,10 +32,10 @@ unit_is_whole form first more p u =
     let d : ltb m (16 + captured form first) ≡ false = le-ltb m (16 + captured form first) (omega arith) in
     rw (cap, a, b, c, d, len) refl
 
--- and what is whole is a lawful unit
-whole_is_unit : (form same : Form) (text : List ℕ) (k : ℕ) → unit_front form text ≡ front.Whole same k → IsUnit form (take k text) (packet_of form (take k text))
-whole_is_unit form same text k is =
-    let w = whole_unit form same text k is in
+-- and what is whole is a lawful packet record
+whole_is_record : (form same : Form) (text : List ℕ) (k : ℕ) → record_front form text ≡ front.Whole same k → IsRecord form (take k text) (packet_of form (take k text))
+whole_is_record form same text k is =
+    let w = whole_record form same text k is in
     let within : k ≤ length text = w.within in
     let least : 16 ≤ k = w.least in
     let long : length (take k text) ≡ k = omega (arith, length-take k text) in
@@ -44,22 +44,22 @@ whole_is_unit form same text k is =
     let small : captured form text ≤ 262144 = w.small in
     record { len = long ∙ len ∙ ap (λ (n : ℕ). 16 + n) cap; small = subst (λ (n : ℕ). n ≤ 262144) cap small; is = refl }
 
-rest_is_none : (form : Form) (at : ℕ) (rest : List ℕ) (f : Front) → unit_front form rest ≡ f → HasNoUnit form rest → (units_in form at rest).0 ≡ []
-rest_is_none form at rest front.Ended is none = ap (λ (r : Reading). r.0) (unit_stops form at rest front.Ended how.Clean is refl)
-rest_is_none form at rest front.Cut is none = ap (λ (r : Reading). r.0) (unit_stops form at rest front.Cut (how.Cut at) is refl)
-rest_is_none form at rest (front.Wrong code) is none = ap (λ (r : Reading). r.0) (unit_stops form at rest (front.Wrong code) (how.Bad code at) is refl)
-rest_is_none form at rest (front.Whole same k) is none = absurd (none (take k rest) (drop k rest) (packet_of form (take k rest)) (sym (take-append-drop k rest)) (whole_is_unit form same rest k is))
+rest_is_none : (form : Form) (at : ℕ) (rest : List ℕ) (f : Front) → record_front form rest ≡ f → HasNoRecord form rest → (records_in form at rest).0 ≡ []
+rest_is_none form at rest front.Ended is none = ap (λ (r : Reading). r.0) (record_stops form at rest front.Ended how.Clean is refl)
+rest_is_none form at rest front.Cut is none = ap (λ (r : Reading). r.0) (record_stops form at rest front.Cut (how.Cut at) is refl)
+rest_is_none form at rest (front.Wrong code) is none = ap (λ (r : Reading). r.0) (record_stops form at rest (front.Wrong code) (how.Bad code at) is refl)
+rest_is_none form at rest (front.Whole same k) is none = absurd (none (take k rest) (drop k rest) (packet_of form (take k rest)) (sym (take-append-drop k rest)) (whole_is_record form same rest k is))
 
-units_read : (form : Form) (at : ℕ) (units rest : List ℕ) (packets : List Packet) → IsUnits form units packets → HasNoUnit form rest → (units_in form at (units ++ rest)).0 ≡ map packet packets
-units_read form at units rest [] u none = rw u (rest_is_none form at rest (unit_front form rest) refl none)
-units_read form at units rest (p ∷ ps) u none =
+records_read : (form : Form) (at : ℕ) (records rest : List ℕ) (packets : List Packet) → AreRecords form records packets → HasNoRecord form rest → (records_in form at (records ++ rest)).0 ≡ map packet packets
+records_read form at records rest [] u none = rw u (rest_is_none form at rest (record_front form rest) refl none)
+records_read form at records rest (p ∷ ps) u none =
     let first = u.0 in
     let others = u.1 in
-    let grouped : units ++ rest ≡ first ++ (others ++ rest) = ap (λ (t : List ℕ). t ++ rest) u.2 ∙ append_assoc first others rest in
-    let step = unit_step form form at (first ++ (others ++ rest)) (length first) (unit_is_whole form first (others ++ rest) p u.3) in
+    let grouped : records ++ rest ≡ first ++ (others ++ rest) = ap (λ (t : List ℕ). t ++ rest) u.2 ∙ append_assoc first others rest in
+    let step = record_step form form at (first ++ (others ++ rest)) (length first) (record_is_whole form first (others ++ rest) p u.3) in
     let made : packet_of form first ≡ p = sym u.3.is in
-    let ih = units_read form (at + length first) others rest ps u.4 none in
-    ap (λ (t : List ℕ). (units_in form at t).0) grouped ∙ ap (λ (r : Reading). r.0) step
+    let ih = records_read form (at + length first) others rest ps u.4 none in
+    ap (λ (t : List ℕ). (records_in form at t).0) grouped ∙ ap (λ (r : Reading). r.0) step
     ∙ rw (take_at first (others ++ rest) (length first) refl, drop_at first (others ++ rest) (length first) refl, made, ih) refl
 
 header_is_whole : (name : List ℕ) (form : Form) (head more : List ℕ) (i : Iface) → IsHeader name form head i → header_front (head ++ more) ≡ front.Whole form 24
@@ -78,27 +78,27 @@ header_is_whole name form head more i h =
 pub classic_events : (name text : List ℕ) (form : Form) (i : Iface) (packets : List Packet) (rest : List ℕ) → Classic name text form i packets rest → events name text ≡ interface i ∷ map packet packets
 classic_events name text form i packets rest c =
     let len : length c.head ≡ 24 = c.header.len in
-    let more = c.units ++ rest in
+    let more = c.records ++ rest in
     let step = header_step name form 0 (c.head ++ more) 24 (header_is_whole name form c.head more i c.header) in
-    let ih = units_read form 24 c.units rest packets c.each c.partial in
+    let ih = records_read form 24 c.records rest packets c.each c.partial in
     ap (events name) c.whole ∙ ap (λ (r : Reading). r.0) step
     ∙ rw (take_at c.head more 24 len, drop_at c.head more 24 len, sym c.header.is, ih) refl
 
 -- ---- the events of a front
 
-units_front : (n : ℕ) (form : Form) (at : ℕ) (text more : List ℕ) (f : Front) → length text < n → unit_front form text ≡ f → (es : List Event) × ((units_in form at (text ++ more)).0 ≡ (units_in form at text).0 ++ es)
-units_front zero form at text more f lt is = absurd (omega arith)
-units_front (suc n) form at text more front.Ended lt is = ((units_in form at (text ++ more)).0, rw (unit_stops form at text front.Ended how.Clean is refl) refl)
-units_front (suc n) form at text more front.Cut lt is = ((units_in form at (text ++ more)).0, rw (unit_stops form at text front.Cut (how.Cut at) is refl) refl)
-units_front (suc n) form at text more (front.Wrong code) lt is = ((units_in form at (text ++ more)).0, rw (unit_stops form at text (front.Wrong code) (how.Bad code at) is refl) refl)
-units_front (suc n) form at text more (front.Whole same k) lt is =
-    let w = whole_unit form same text k is in
+records_front : (n : ℕ) (form : Form) (at : ℕ) (text more : List ℕ) (f : Front) → length text < n → record_front form text ≡ f → (es : List Event) × ((records_in form at (text ++ more)).0 ≡ (records_in form at text).0 ++ es)
+records_front zero form at text more f lt is = absurd (omega arith)
+records_front (suc n) form at text more front.Ended lt is = ((records_in form at (text ++ more)).0, rw (record_stops form at text front.Ended how.Clean is refl) refl)
+records_front (suc n) form at text more front.Cut lt is = ((records_in form at (text ++ more)).0, rw (record_stops form at text front.Cut (how.Cut at) is refl) refl)
+records_front (suc n) form at text more (front.Wrong code) lt is = ((records_in form at (text ++ more)).0, rw (record_stops form at text (front.Wrong code) (how.Bad code at) is refl) refl)
+records_front (suc n) form at text more (front.Whole same k) lt is =
+    let w = whole_record form same text k is in
     let within : k ≤ length text = w.within in
     let least : 16 ≤ k = w.least in
     let shorter : length (drop k text) < n = omega (arith, length-drop k text) in
-    let ih = units_front n form (at + k) (drop k text) more (unit_front form (drop k text)) shorter refl in
-    let a = unit_step form same at text k is in
-    let b = unit_step form same at (text ++ more) k (whole_unit-append form same text more k is) in
+    let ih = records_front n form (at + k) (drop k text) more (record_front form (drop k text)) shorter refl in
+    let a = record_step form same at text k is in
+    let b = record_step form same at (text ++ more) k (whole_record-append form same text more k is) in
     (ih.0, ap (λ (r : Reading). r.0) b ∙ rw (take-append-le k text more within, drop-append-le k text more within, ih.1, a) refl)
 
 header_events : (name text more : List ℕ) (f : Front) → header_front text ≡ f → (es : List Event) × ((header_in name 0 (text ++ more)).0 ≡ (header_in name 0 text).0 ++ es)
@@ -110,7 +110,7 @@ header_events name text more (front.Whole form k) is =
     let len : k ≡ 24 = w.len in
     let long : 24 ≤ length text = w.within in
     let within : k ≤ length text = omega arith in
-    let ih = units_front (suc (length (drop k text))) form (0 + k) (drop k text) more (unit_front form (drop k text)) (omega arith) refl in
+    let ih = records_front (suc (length (drop k text))) form (0 + k) (drop k text) more (record_front form (drop k text)) (omega arith) refl in
     let a = header_step name form 0 text k is in
     let b = header_step name form 0 (text ++ more) k (whole_header-append form text more k is) in
     (ih.0, ap (λ (r : Reading). r.0) b ∙ rw (take-append-le k text more within, drop-append-le k text more within, ih.1, a) refl)
@@ -139,25 +139,25 @@ one_reading name text f1 f2 i1 i2 p1 p2 r1 r2 a b =
 
 -- ---- a defect stays
 
-units_bad : (n : ℕ) (form : Form) (at : ℕ) (text more : List ℕ) (code : Code) (place : ℕ) (f : Front) → length text < n → unit_front form text ≡ f → (units_in form at text).1 ≡ how.Bad code place → units_in form at (text ++ more) ≡ units_in form at text
-units_bad zero form at text more code place f lt is bad = absurd (omega arith)
-units_bad (suc n) form at text more code place front.Ended lt is bad =
-    let e : how.Clean ≡ how.Bad code place = sym (ap (λ (r : Reading). r.1) (unit_stops form at text front.Ended how.Clean is refl)) ∙ bad in
+records_bad : (n : ℕ) (form : Form) (at : ℕ) (text more : List ℕ) (code : Code) (place : ℕ) (f : Front) → length text < n → record_front form text ≡ f → (records_in form at text).1 ≡ how.Bad code place → records_in form at (text ++ more) ≡ records_in form at text
+records_bad zero form at text more code place f lt is bad = absurd (omega arith)
+records_bad (suc n) form at text more code place front.Ended lt is bad =
+    let e : how.Clean ≡ how.Bad code place = sym (ap (λ (r : Reading). r.1) (record_stops form at text front.Ended how.Clean is refl)) ∙ bad in
     absurd cc
-units_bad (suc n) form at text more code place front.Cut lt is bad =
-    let e : how.Cut at ≡ how.Bad code place = sym (ap (λ (r : Reading). r.1) (unit_stops form at text front.Cut (how.Cut at) is refl)) ∙ bad in
+records_bad (suc n) form at text more code place front.Cut lt is bad =
+    let e : how.Cut at ≡ how.Bad code place = sym (ap (λ (r : Reading). r.1) (record_stops form at text front.Cut (how.Cut at) is refl)) ∙ bad in
     absurd cc
-units_bad (suc n) form at text more code place (front.Wrong wrong) lt is bad =
-    unit_stops form at (text ++ more) (front.Wrong wrong) (how.Bad wrong at) (wrong_unit-append form text more wrong is) refl ∙ sym (unit_stops form at text (front.Wrong wrong) (how.Bad wrong at) is refl)
-units_bad (suc n) form at text more code place (front.Whole same k) lt is bad =
-    let w = whole_unit form same text k is in
+records_bad (suc n) form at text more code place (front.Wrong wrong) lt is bad =
+    record_stops form at (text ++ more) (front.Wrong wrong) (how.Bad wrong at) (wrong_record-append form text more wrong is) refl ∙ sym (record_stops form at text (front.Wrong wrong) (how.Bad wrong at) is refl)
+records_bad (suc n) form at text more code place (front.Whole same k) lt is bad =
+    let w = whole_record form same text k is in
     let within : k ≤ length text = w.within in
     let least : 16 ≤ k = w.least in
     let shorter : length (drop k text) < n = omega (arith, length-drop k text) in
-    let a = unit_step form same at text k is in
-    let b = unit_step form same at (text ++ more) k (whole_unit-append form same text more k is) in
-    let behind : (units_in form (at + k) (drop k text)).1 ≡ how.Bad code place = sym (ap (λ (r : Reading). r.1) a) ∙ bad in
-    let ih = units_bad n form (at + k) (drop k text) more code place (unit_front form (drop k text)) shorter refl behind in
+    let a = record_step form same at text k is in
+    let b = record_step form same at (text ++ more) k (whole_record-append form same text more k is) in
+    let behind : (records_in form (at + k) (drop k text)).1 ≡ how.Bad code place = sym (ap (λ (r : Reading). r.1) a) ∙ bad in
+    let ih = records_bad n form (at + k) (drop k text) more code place (record_front form (drop k text)) shorter refl behind in
     b ∙ rw (take-append-le k text more within, drop-append-le k text more within, ih) (sym a)
 
 header_bad : (name text more : List ℕ) (code : Code) (place : ℕ) (f : Front) → header_front text ≡ f → (header_in name 0 text).1 ≡ how.Bad code place → header_in name 0 (text ++ more) ≡ header_in name 0 text
@@ -176,54 +176,54 @@ header_bad name text more code place (front.Whole form k) is bad =
     let within : k ≤ length text = omega arith in
     let a = header_step name form 0 text k is in
     let b = header_step name form 0 (text ++ more) k (whole_header-append form text more k is) in
-    let behind : (units_in form (0 + k) (drop k text)).1 ≡ how.Bad code place = sym (ap (λ (r : Reading). r.1) a) ∙ bad in
-    let ih = units_bad (suc (length (drop k text))) form (0 + k) (drop k text) more code place (unit_front form (drop k text)) (omega arith) refl behind in
+    let behind : (records_in form (0 + k) (drop k text)).1 ≡ how.Bad code place = sym (ap (λ (r : Reading). r.1) a) ∙ bad in
+    let ih = records_bad (suc (length (drop k text))) form (0 + k) (drop k text) more code place (record_front form (drop k text)) (omega arith) refl behind in
     b ∙ rw (take-append-le k text more within, drop-append-le k text more within, ih) (sym a)
 
 pub bad_stays : (name text more : List ℕ) (code : Code) (place : ℕ) → ending name text ≡ how.Bad code place → reading name (text ++ more) ≡ reading name text
 bad_stays name text more code place bad = header_bad name text more code place (header_front text) refl bad
 
--- ---- each text behind a header is units and a rest
+-- ---- each text behind a header is records and a rest
 
 abbrev IsStop : Front → Type 0
 IsStop (front.Whole form k) = ⊥
 IsStop other = Unit {0}
 
-no_unit : (form : Form) (rest : List ℕ) (f : Front) → unit_front form rest ≡ f → IsStop f → HasNoUnit form rest
-no_unit form rest f is stop first more p parts u =
-    let whole : unit_front form rest ≡ front.Whole form (length first) = ap (unit_front form) parts ∙ unit_is_whole form first more p u in
+no_record : (form : Form) (rest : List ℕ) (f : Front) → record_front form rest ≡ f → IsStop f → HasNoRecord form rest
+no_record form rest f is stop first more p parts u =
+    let whole : record_front form rest ≡ front.Whole form (length first) = ap (record_front form) parts ∙ record_is_whole form first more p u in
     subst IsStop (sym is ∙ whole) stop
 
 pub record Found (form : Form) (text : List ℕ) : Type 0 where
-  pub units : List ℕ
+  pub records : List ℕ
   pub packets : List Packet
   pub rest : List ℕ
-  pub whole : text ≡ units ++ rest
-  pub each : IsUnits form units packets
-  pub partial : HasNoUnit form rest
+  pub whole : text ≡ records ++ rest
+  pub each : AreRecords form records packets
+  pub partial : HasNoRecord form rest
 
-units_found : (n : ℕ) (form : Form) (text : List ℕ) (f : Front) → length text < n → unit_front form text ≡ f → Found form text
-units_found zero form text f lt is = absurd (omega arith)
-units_found (suc n) form text front.Ended lt is = record { units = []; packets = []; rest = text; whole = refl; each = refl; partial = no_unit form text front.Ended is tt }
-units_found (suc n) form text front.Cut lt is = record { units = []; packets = []; rest = text; whole = refl; each = refl; partial = no_unit form text front.Cut is tt }
-units_found (suc n) form text (front.Wrong code) lt is = record { units = []; packets = []; rest = text; whole = refl; each = refl; partial = no_unit form text (front.Wrong code) is tt }
-units_found (suc n) form text (front.Whole same k) lt is =
-    let w = whole_unit form same text k is in
+records_found : (n : ℕ) (form : Form) (text : List ℕ) (f : Front) → length text < n → record_front form text ≡ f → Found form text
+records_found zero form text f lt is = absurd (omega arith)
+records_found (suc n) form text front.Ended lt is = record { records = []; packets = []; rest = text; whole = refl; each = refl; partial = no_record form text front.Ended is tt }
+records_found (suc n) form text front.Cut lt is = record { records = []; packets = []; rest = text; whole = refl; each = refl; partial = no_record form text front.Cut is tt }
+records_found (suc n) form text (front.Wrong code) lt is = record { records = []; packets = []; rest = text; whole = refl; each = refl; partial = no_record form text (front.Wrong code) is tt }
+records_found (suc n) form text (front.Whole same k) lt is =
+    let w = whole_record form same text k is in
     let within : k ≤ length text = w.within in
     let least : 16 ≤ k = w.least in
     let shorter : length (drop k text) < n = omega (arith, length-drop k text) in
-    let ih = units_found n form (drop k text) (unit_front form (drop k text)) shorter refl in
+    let ih = records_found n form (drop k text) (record_front form (drop k text)) shorter refl in
     record {
-      units = take k text ++ ih.units;
+      records = take k text ++ ih.records;
       packets = packet_of form (take k text) ∷ ih.packets;
       rest = ih.rest;
-      whole = sym (take-append-drop k text) ∙ ap (λ (t : List ℕ). take k text ++ t) ih.whole ∙ sym (append_assoc (take k text) ih.units ih.rest);
-      each = (take k text, ih.units, refl, whole_is_unit form same text k is, ih.each);
+      whole = sym (take-append-drop k text) ∙ ap (λ (t : List ℕ). take k text ++ t) ih.whole ∙ sym (append_assoc (take k text) ih.records ih.rest);
+      each = (take k text, ih.records, refl, whole_is_record form same text k is, ih.each);
       partial = ih.partial;
     }
 
 -- where a text begins with a header, it is a classic text
 pub classic_found : (name head more : List ℕ) (form : Form) (i : Iface) → IsHeader name form head i → (packets : List Packet) × (rest : List ℕ) × Classic name (head ++ more) form i packets rest
 classic_found name head more form i h =
-    let found = units_found (suc (length more)) form more (unit_front form more) (omega arith) refl in
-    (found.packets, found.rest, record { head = head; units = found.units; whole = ap (λ (t : List ℕ). head ++ t) found.whole; header = h; each = found.each; partial = found.partial })
+    let found = records_found (suc (length more)) form more (record_front form more) (omega arith) refl in
+    (found.packets, found.rest, record { head = head; records = found.records; whole = ap (λ (t : List ℕ). head ++ t) found.whole; header = h; each = found.each; partial = found.partial })

@@ -6,8 +6,8 @@ use Rattle.cap_base.specs.declared.endings.How.TheVariants as how
 use Rattle.cap_base.specs.declared.steps.Step.{Step}
 use Rattle.cap_base.specs.declared.steps.Step.TheVariants as step
 use Rattle.pcap_pipe.specs.declared.stage.Stage.{Stage}
-use Rattle.pcap_pipe.specs.declared.stage.Stage.TheVariants.{Header, Units, Broken}
-use Rattle.pcap_pipe.specs.Reading.{Reading, with_front, units_in, header_in, reading, events, ending}
+use Rattle.pcap_pipe.specs.declared.stage.Stage.TheVariants.{Header, Records, Broken}
+use Rattle.pcap_pipe.specs.Reading.{Reading, with_front, records_in, header_in, reading, events, ending}
 
 pub record Pipe : Type 0 where
   pub name : List ℕ
@@ -18,7 +18,7 @@ pub record Pipe : Type 0 where
 -- how the reading goes on, over the bytes that come
 unfoldable pub continues : List ℕ → Stage → ℕ → List ℕ → Reading
 continues name Header at text = header_in name at text
-continues name (Units form) at text = units_in form at text
+continues name (Records form) at text = records_in form at text
 continues name (Broken code) at text = ([], how.Bad code at)
 
 -- how many bytes were fed
@@ -43,7 +43,7 @@ IsDrained pipe = ((continues pipe.name pipe.stage pipe.place pipe.kept).0 ≡ []
   where
     Rests : Stage → How → Type 0
     Rests Header end = IsOpen end
-    Rests (Units form) end = IsOpen end
+    Rests (Records form) end = IsOpen end
     Rests (Broken code) end = Unit {0}
 
 -- the ending, where nothing is to come: the defect, or Clean behind a header with no byte left, or Cut
@@ -52,7 +52,7 @@ ending_of_rest pipe = by_stage pipe.stage
   where
     by_stage : Stage → How
     by_stage Header = how.Cut pipe.place
-    by_stage (Units form) = if length pipe.kept == 0 then how.Clean else how.Cut pipe.place
+    by_stage (Records form) = if length pipe.kept == 0 then how.Clean else how.Cut pipe.place
     by_stage (Broken code) = how.Bad code pipe.place
 
 -- these bytes were fed
@@ -84,7 +84,7 @@ is_reading pipe = by_stage pipe.stage
   where
     by_stage : Stage → Bool
     by_stage Header = true
-    by_stage (Units form) = true
+    by_stage (Records form) = true
     by_stage (Broken code) = false
 
 -- how many of so many bytes it takes: none after a defect

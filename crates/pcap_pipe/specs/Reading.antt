@@ -19,16 +19,16 @@ header_front text =
     (λ (form : Form). if nat_lt (length text) 24 then front.Cut else if field form.order w16 text 4 == 2 then front.Whole form 24 else front.Wrong Version)
     (form_of (take 4 text)) (front.Wrong Magic)
 
--- what stands at a unit's place
-unfoldable pub unit_front : Form → List ℕ → Front
-unit_front form text =
+-- what stands at a packet record's place
+unfoldable pub record_front : Form → List ℕ → Front
+record_front form text =
     if length text == 0 then front.Ended else
     if nat_lt (length text) 16 then front.Cut else
     if nat_lt 262144 (captured form text) then front.Wrong Captured else
     if nat_lt (length text) (16 + captured form text) then front.Cut else front.Whole form (16 + captured form text)
 
--- Whole bytes are at least so many, no more than there are, and no more than a unit has. Where there are fewer than a
--- whole unit, there are fewer than the longest one has.
+-- Whole bytes are at least so many, no more than there are, and no more than a packet record has. Where there are fewer than a
+-- whole packet record, there are fewer than the longest one has.
 abbrev pub IsWithin : ℕ → ℕ → Front → Type 0
 IsWithin least most (front.Whole form len) = (least ≤ len) × (len ≤ most) × (len ≤ 262160)
 IsWithin least most front.Cut = most < 262160
@@ -49,17 +49,17 @@ decided front.Cut at behind = ([], Cut at)
 decided (front.Wrong code) at behind = ([], Bad code at)
 decided (front.Whole form len) at behind = behind form len
 
--- the first n units of a text that stands at a place
-unfoldable pub units_from : ℕ → Form → ℕ → List ℕ → Reading
-units_from zero form at text = ([], Cut at)
-units_from (suc n) form at text = decided (unit_front form text) at (λ same len. with_front (packet (packet_of form (take len text)) ∷ []) (units_from n form (at + len) (drop len text)))
+-- the first n packet records of a text that stands at a place
+unfoldable pub records_from : ℕ → Form → ℕ → List ℕ → Reading
+records_from zero form at text = ([], Cut at)
+records_from (suc n) form at text = decided (record_front form text) at (λ same len. with_front (packet (packet_of form (take len text)) ∷ []) (records_from n form (at + len) (drop len text)))
 
 -- all of them: each takes a byte at least
-unfoldable pub units_in : Form → ℕ → List ℕ → Reading
-units_in form at text = units_from (suc (length text)) form at text
+unfoldable pub records_in : Form → ℕ → List ℕ → Reading
+records_in form at text = records_from (suc (length text)) form at text
 
 unfoldable pub header_in : List ℕ → ℕ → List ℕ → Reading
-header_in name at text = decided (header_front text) at (λ form len. with_front (interface (interface_of name form (take len text)) ∷ []) (units_in form (at + len) (drop len text)))
+header_in name at text = decided (header_front text) at (λ form len. with_front (interface (interface_of name form (take len text)) ∷ []) (records_in form (at + len) (drop len text)))
 
 -- the whole text
 abbrev pub reading : List ℕ → List ℕ → Reading

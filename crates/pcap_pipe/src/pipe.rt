@@ -1,9 +1,12 @@
 ghost use Rattle.std.specs.Prelude.{◌≡◌, ◌≤◌, ◌<◌, ◌+◌, ◌-◌, ◌^◌, [], min, length, take, drop, IfOk, OnErr};
-ghost use Rattle.pcap_pipe.specs.Classic.{interface_of, packet_of, resolution, per_second};
-ghost use Rattle.cap_base.specs.Events.{Event};
+ghost use Rattle.pcap_pipe.specs.Classic.{interface_of, packet_of};
 
 use crate::form::Form;
-use crate::front::{Front, header_front_of, unit_front_of};
+use crate::front::{Front, header_front_of, record_front_of};
+use crate::layout::{
+    FRACTION_AT, LINK_TYPE_AT, LINK_TYPES, ORIGINAL_LEN_AT, RECORD_HEADER_LEN, SECONDS_AT,
+    SNAP_LEN_AT,
+};
 use crate::stage::Stage;
 use cap_base::{Code, How, Iface, Name, NoMemory, Notes, Octets, Packet, Step, get_u32};
 use std::alloc::Global;
@@ -34,20 +37,6 @@ impl Model for PcapPipe {
     ghost invariant = { λ p. (p.start ≤ length p.buffer.items) × (p.place + length (drop p.start p.buffer.items) ≤ 2 ^ 62) };
 }
 
-fn resolution_of(form: Form) -> u8
-    ensures value { result ≡ resolution form }
-    ensures bound { result ≤ 9 }
-{
-    if form.nanos { 9 } else { 6 }
-}
-
-fn per_second_of(form: Form) -> u64
-    ensures value { result ≡ per_second form }
-    ensures bound { result ≤ 1000000000 }
-{
-    if form.nanos { 1_000_000_000 } else { 1_000_000 }
-}
-
 #[tactic(auto, unfolding(crate::specs::Classic::interface_of))]
 fn interface_at(alloc: Global, name: &Octets, form: Form, text: &[u8]) -> Result<Iface, NoMemory>
     requires { 24 ≤ length text.now }
@@ -57,9 +46,9 @@ fn interface_at(alloc: Global, name: &Octets, form: Form, text: &[u8]) -> Result
     ensures resolution { IfOk result (λ i. i.resol ≤ 9) }
 {
     Ok(Iface {
-        link: (get_u32(form.order, text, 20) % 0x1_0000) as u16,
-        snap: get_u32(form.order, text, 16),
-        resol: resolution_of(form),
+        link: (get_u32(form.order, text, LINK_TYPE_AT) % LINK_TYPES) as u16,
+        snap: get_u32(form.order, text, SNAP_LEN_AT),
+        resol: form.fraction.resolution(),
         offset: 0,
         name: name.copy()?,
         notes: Notes::new(alloc),
@@ -73,14 +62,14 @@ fn packet_at(alloc: Global, form: Form, text: &[u8]) -> Result<Packet, NoMemory>
     ensures notes { IfOk result (λ p. p.notes ≡ []) }
     ensures body { IfOk result (λ p. length p.body + 16 ≡ length text.now) }
 {
-    let seconds = get_u32(form.order, text, 0) as u64;
-    let fraction = get_u32(form.order, text, 4) as u64;
+    let seconds = get_u32(form.order, text, SECONDS_AT) as u64;
+    let fraction = get_u32(form.order, text, FRACTION_AT) as u64;
     let mut body = Octets::new(alloc);
-    body.append(&text[16..])?;
+    body.append(&text[RECORD_HEADER_LEN..])?;
     Ok(Packet {
         iface: 0,
-        time: seconds * per_second_of(form) + fraction,
-        orig: get_u32(form.order, text, 12),
+        time: seconds * form.fraction.per_second() + fraction,
+        orig: get_u32(form.order, text, ORIGINAL_LEN_AT),
         body,
         notes: Notes::new(alloc),
     })
@@ -175,14 +164,14 @@ impl PcapPipe {
                 let iface = interface_at(self.alloc, &self.name, form, front_bytes(text, len))?;
                 self.start += len;
                 self.place += len as u64;
-                self.stage = Stage::Units(form);
+                self.stage = Stage::Records(form);
                 Ok(Step::Iface(iface))
             }
         }
     }
 
-    fn next_unit(&mut self, form: Form) -> Result<Step, NoMemory>
-        requires { self.old.stage ≡ Stage.Units form }
+    fn next_record(&mut self, form: Form) -> Result<Step, NoMemory>
+        requires { self.old.stage ≡ Stage.Records form }
         ensures step { IfOk result (λ step. Steps self.old self.new step) }
         ensures lawful { IfOk result (λ step. IsLawful self.old self.new step) }
         ensures same { fed_count self.new ≡ fed_count self.old }
@@ -190,7 +179,7 @@ impl PcapPipe {
         ensures err { OnErr result (self.new ≡ self.old) }
     {
         let text = bytes_from(&self.buffer, self.start);
-        match unit_front_of(form, text) {
+        match record_front_of(form, text) {
             Front::Ended | Front::Cut => Ok(Step::More),
             Front::Wrong(code) => {
                 self.stage = Stage::Broken(code);
@@ -208,7 +197,7 @@ impl PcapPipe {
         }
     }
 
-    /// The next event. More comes where the kept bytes hold no whole unit and no defect, and a defect is answered
+    /// The next event. More comes where the kept bytes hold no whole packet record and no defect, and a defect is answered
     /// again from then on.
     pub fn next(&mut self) -> Result<Step, NoMemory>
         ensures step { IfOk result (λ step. Steps self.old self.new step) }
@@ -219,7 +208,7 @@ impl PcapPipe {
     {
         match self.stage {
             Stage::Header => self.next_header(),
-            Stage::Units(form) => self.next_unit(form),
+            Stage::Records(form) => self.next_record(form),
             Stage::Broken(code) => Ok(Step::Bad {
                 code,
                 at: self.place,
@@ -247,7 +236,7 @@ impl PcapPipe {
                 at: self.place,
             },
             Stage::Header => How::Cut { at: self.place },
-            Stage::Units(_) => {
+            Stage::Records(_) => {
                 if bytes_from(&self.buffer, self.start).is_empty() {
                     How::Clean
                 } else {
