@@ -115,7 +115,7 @@ abbrev pub with_kept : Pipe → List ℕ → Pipe
 with_kept pipe more = record pipe { kept = pipe.kept ++ more }
 
 -- What is known of a step besides: each event takes bytes, an interface has the source's name, and nothing that is
--- given has notes. Where more is needed, less than the longest unit is kept.
+-- given has notes. Where more is needed, less than the longest packet record is kept.
 abbrev pub IsLawful : Pipe → Pipe → Step → Type 0
 IsLawful old new (step.Iface i) = (old.place + 24 ≤ new.place) × (i.name ≡ old.name) × (i.notes ≡ []) × (i.resol ≤ 9)
 IsLawful old new (step.Packet p) = (old.place + 16 ≤ new.place) × (p.notes ≡ []) × (length p.body ≤ 262144)
