@@ -1,6 +1,6 @@
 -- How a reading goes on over the bytes that are kept, and what each step of a pipe does to the texts that it stands for.
 use Rattle.std.proofs.Common.{◌≡◌, ℕ, zero, suc, ◌+◌, ◌-◌, ◌<◌, ◌≤◌, List, [], ◌∷◌, ◌++◌, length, take, drop, refl, sym, ap, subst, ◌∙◌, arith, append_assoc}
-use Rattle.std.proofs.Common.{cond, eqb}
+use Rattle.std.proofs.Common.{cond, eqb, ◌↔◌}
 use Rattle.std.proofs.lemmas.Bool.{eq-eqb, ne_eqb}
 use Rattle.std.proofs.lemmas.List.{append-nil, length-append, length-drop, take-append-le, drop-append-le}
 use Rattle.cap_base.specs.Events.{Event, interface, packet}
@@ -9,6 +9,9 @@ use Rattle.cap_base.specs.declared.packet.Packet.{Packet}
 use Rattle.cap_base.specs.declared.endings.Code.{Code}
 use Rattle.cap_base.specs.declared.endings.How.{How}
 use Rattle.cap_base.specs.declared.endings.How.TheVariants as how
+use Rattle.cap_base.specs.declared.steps.Step.{Step}
+use Rattle.cap_base.specs.declared.steps.Step.TheVariants as steps
+use Rattle.cap_base.specs.declared.steps.Step.TheVariants.{More}
 use Rattle.pcap_pipe.specs.declared.form.Form.{Form}
 use Rattle.pcap_pipe.specs.declared.front.Front.{Front}
 use Rattle.pcap_pipe.specs.declared.front.Front.TheVariants as front
@@ -16,7 +19,7 @@ use Rattle.pcap_pipe.specs.declared.stage.Stage.{Stage}
 use Rattle.pcap_pipe.specs.declared.stage.Stage.TheVariants.{Header, Records, Broken}
 use Rattle.pcap_pipe.specs.Classic.{interface_of, packet_of}
 use Rattle.pcap_pipe.specs.Reading.{Reading, with_front, decided, header_front, record_front, records_from, records_in, header_in, reading}
-use Rattle.pcap_pipe.specs.Pipe.{Pipe, continues, fed_count, StandsFor, IsDrained, Feeds, Gives, EndsAs, IsOpen}
+use Rattle.pcap_pipe.specs.Pipe.{Pipe, continues, fed_count, StandsFor, IsDrained, Feeds, Gives, EndsAs, IsOpen, ending_of_rest, Steps, Passes, Breaks, IsWaiting}
 use Rattle.pcap_pipe.proofs.Fronts.{whole_record, whole_record-append, wrong_record-append, whole_header, whole_header-append, wrong_header-append, never_ended, record_ended, record_cut}
 
 -- ---- turns enough
@@ -125,13 +128,6 @@ continues-broken : (pipe : Pipe) (code : Code) (text : List ℕ) → pipe.stage 
 unfolding continues
 continues-broken pipe code text is = rw is refl
 
--- the pipe behind k bytes
-pub record Passes (k : ℕ) (next : Stage) (old new : Pipe) : Type 0 where
-  pub name : new.name ≡ old.name
-  pub stage : new.stage ≡ next
-  pub place : new.place ≡ old.place + k
-  pub kept : new.kept ≡ drop k old.kept
-
 passes_count : (k : ℕ) (next : Stage) (old new : Pipe) → Passes k next old new → k ≤ length old.kept → fed_count new ≡ fed_count old
 passes_count k next old new moved within =
     let place : new.place ≡ old.place + k = moved.place in
@@ -183,13 +179,6 @@ is_broken pipe code place at is =
     let e = continues-broken pipe code pipe.kept at in
     ((ap (λ (r : Reading). r.0) e, rw at tt), ends_by pipe (how.Bad code pipe.place) (λ h. h ≡ how.Bad code place) e (ap (how.Bad code) is))
 
--- the pipe has met a defect
-pub record Breaks (code : Code) (old new : Pipe) : Type 0 where
-  pub name : new.name ≡ old.name
-  pub stage : new.stage ≡ Broken code
-  pub place : new.place ≡ old.place
-  pub kept : new.kept ≡ old.kept
-
 breaks_count : (code : Code) (old new : Pipe) → Breaks code old new → fed_count new ≡ fed_count old
 breaks_count code old new broke =
     let place : new.place ≡ old.place = broke.place in
@@ -207,6 +196,16 @@ header_breaks old new code at is broke = gives_by old new [] broke.name (breaks_
     continues-header old (old.kept ++ more) at
     ∙ header_stops old.name old.place (old.kept ++ more) (front.Wrong code) (how.Bad code old.place) (wrong_header-append old.kept more code is) refl
     ∙ rw (continues-broken new code (new.kept ++ more) broke.stage, broke.place) refl)
+
+pub record_refuses : (old new : Pipe) (form : Form) (code : Code) (step : Step) → old.stage ≡ Records form → record_front form old.kept ≡ front.Wrong code → Breaks code old new → step ≡ steps.Bad code old.place → Steps old new step
+record_refuses old new form code step at is broke answered =
+    let broken = is_broken new code old.place broke.stage broke.place in
+    rw answered (record_breaks old new form code at is broke, broken.0, broken.1)
+
+pub header_refuses : (old new : Pipe) (code : Code) (step : Step) → old.stage ≡ Header → header_front old.kept ≡ front.Wrong code → Breaks code old new → step ≡ steps.Bad code old.place → Steps old new step
+header_refuses old new code step at is broke answered =
+    let broken = is_broken new code old.place broke.stage broke.place in
+    rw answered (header_breaks old new code at is broke, broken.0, broken.1)
 
 abbrev pub at_start : List ℕ → List ℕ → Pipe
 at_start name kept = record { name = name; stage = Header; place = 0; kept = kept }
@@ -247,17 +246,64 @@ header_end name at text (front.Whole form k) is none still =
     let e : interface (interface_of name form (take k text)) ∷ (records_in form (at + k) (drop k text)).0 ≡ [] = sym (ap (λ (r : Reading). r.0) (header_step name form at text k is)) ∙ none in
     absurd cc
 
-pub record_rests : (pipe : Pipe) (form : Form) (h : How) → pipe.stage ≡ Records form → IsDrained pipe → h ≡ cond (eqb (length pipe.kept) 0) how.Clean (how.Cut pipe.place) → EndsAs pipe (λ e. e ≡ h)
+-- where all events of the kept bytes were given, the bytes fed end as the rest does
+drained_at : (pipe : Pipe) (stage : Stage) → pipe.stage ≡ stage → IsDrained pipe → continues pipe.name pipe.stage pipe.place pipe.kept ≡ ([], ending_of_rest pipe)
 unfolding IsDrained continues
-record_rests pipe form h at rests is =
-    let here = rw at at rests in
-    ends_by pipe h (λ e. e ≡ h) (continues-records pipe form pipe.kept at ∙ record_end form pipe.place pipe.kept (record_front form pipe.kept) refl here.0 here.1 ∙ rw is refl) refl
+drained_at pipe Header at drained =
+    let here = rw at at drained in
+    continues-header pipe pipe.kept at ∙ header_end pipe.name pipe.place pipe.kept (header_front pipe.kept) refl here.0 here.1 ∙ rw at refl
+drained_at pipe (Records form) at drained =
+    let here = rw at at drained in
+    continues-records pipe form pipe.kept at ∙ record_end form pipe.place pipe.kept (record_front form pipe.kept) refl here.0 here.1 ∙ rw at refl
+drained_at pipe (Broken code) at drained = continues-broken pipe code pipe.kept at ∙ rw at refl
 
-pub header_rests : (pipe : Pipe) (h : How) → pipe.stage ≡ Header → IsDrained pipe → h ≡ how.Cut pipe.place → EndsAs pipe (λ e. e ≡ h)
+pub drained_ends : (pipe : Pipe) (h : How) → IsDrained pipe → h ≡ ending_of_rest pipe → EndsAs pipe (λ e. e ≡ h)
+drained_ends pipe h drained is = ends_by pipe (ending_of_rest pipe) (λ e. e ≡ h) (drained_at pipe pipe.stage refl drained) (sym is)
+
+-- ---- where more is needed
+
+-- more is needed exactly where this stands at the front
+abbrev pub AnswersMore : Front → Step → Type 0
+AnswersMore front.Ended step = step ≡ More
+AnswersMore front.Cut step = step ≡ More
+AnswersMore (front.Wrong code) step = step ≡ More → ⊥
+AnswersMore (front.Whole form len) step = step ≡ More → ⊥
+
+pub record_waiting : (pipe : Pipe) (form : Form) (f : Front) (step : Step) → pipe.stage ≡ Records form → record_front form pipe.kept ≡ f → AnswersMore f step → (step ≡ More) ↔ IsWaiting pipe
 unfolding IsDrained continues
-header_rests pipe h at rests is =
-    let here = rw at at rests in
-    ends_by pipe (how.Cut pipe.place) (λ e. e ≡ h) (continues-header pipe pipe.kept at ∙ header_end pipe.name pipe.place pipe.kept (header_front pipe.kept) refl here.0 here.1) (sym is)
+record_waiting pipe form front.Ended step at is more = (λ e. (rw at refl, (record_waits pipe form front.Ended how.Clean at is refl tt).0), λ w. more)
+record_waiting pipe form front.Cut step at is more = (λ e. (rw at refl, (record_waits pipe form front.Cut (how.Cut pipe.place) at is refl tt).0), λ w. more)
+record_waiting pipe form (front.Wrong code) step at is other = (
+  λ e. absurd (other e),
+  λ w.
+      let here = rw at at w.1 in
+      absurd (subst (λ (r : Reading). IsOpen r.1) (record_stops form pipe.place pipe.kept (front.Wrong code) (how.Bad code pipe.place) is refl) here.1),
+)
+record_waiting pipe form (front.Whole same k) step at is other = (
+  λ e. absurd (other e),
+  λ w.
+      let here = rw at at w.1 in
+      let e : packet (packet_of form (take k pipe.kept)) ∷ (records_in form (pipe.place + k) (drop k pipe.kept)).0 ≡ [] = sym (ap (λ (r : Reading). r.0) (record_step form same pipe.place pipe.kept k is)) ∙ here.0 in
+      absurd cc,
+)
+
+pub header_waiting : (pipe : Pipe) (f : Front) (step : Step) → pipe.stage ≡ Header → header_front pipe.kept ≡ f → AnswersMore f step → (step ≡ More) ↔ IsWaiting pipe
+unfolding IsDrained continues
+header_waiting pipe front.Ended step at is more = absurd (never_ended pipe.kept is)
+header_waiting pipe front.Cut step at is more = (λ e. (rw at refl, (header_waits pipe front.Cut (how.Cut pipe.place) at is refl tt).0), λ w. more)
+header_waiting pipe (front.Wrong code) step at is other = (
+  λ e. absurd (other e),
+  λ w.
+      let here = rw at at w.1 in
+      absurd (subst (λ (r : Reading). IsOpen r.1) (header_stops pipe.name pipe.place pipe.kept (front.Wrong code) (how.Bad code pipe.place) is refl) here.1),
+)
+header_waiting pipe (front.Whole form k) step at is other = (
+  λ e. absurd (other e),
+  λ w.
+      let here = rw at at w.1 in
+      let e : interface (interface_of pipe.name form (take k pipe.kept)) ∷ (records_in form (pipe.place + k) (drop k pipe.kept)).0 ≡ [] = sym (ap (λ (r : Reading). r.0) (header_step pipe.name form pipe.place pipe.kept k is)) ∙ here.0 in
+      absurd cc,
+)
 
 pub pipe_is : (name : List ℕ) (stage : Stage) (place : ℕ) (kept : List ℕ) (old : Pipe) (bytes : List ℕ) → name ≡ old.name → stage ≡ old.stage → place ≡ old.place → kept ≡ old.kept ++ bytes
     → (let made : Pipe = record { name = name; stage = stage; place = place; kept = kept } in made) ≡ record old { kept = old.kept ++ bytes }

@@ -1,5 +1,5 @@
 -- What a text holds is one, and stays when the text goes on.
-use Rattle.std.proofs.Common.{◌≡◌, ℕ, zero, suc, ◌+◌, ◌<◌, ◌≤◌, List, [], ◌∷◌, ◌++◌, length, map, take, drop, eqb, ltb, false, refl, sym, ap, subst, ◌∙◌, arith, append_assoc}
+use Rattle.std.proofs.Common.{◌≡◌, ℕ, zero, suc, ◌+◌, ◌-◌, ◌<◌, ◌≤◌, Some, List, [], ◌∷◌, ◌++◌, length, map, take, drop, eqb, ltb, false, refl, sym, ap, subst, ◌∙◌, arith, append_assoc}
 use Rattle.std.specs.Int.{w16}
 use Rattle.std.proofs.lemmas.Bool.{le-ltb, ne_eqb}
 use Rattle.std.proofs.lemmas.List.{length-append, length-drop, length-take, take-append-le, drop-append-le, take_at, drop_at, take-append-drop}
@@ -11,14 +11,15 @@ use Rattle.pcap_pipe.specs.declared.form.Form.{Form}
 use Rattle.pcap_pipe.specs.declared.front.Front.{Front}
 use Rattle.pcap_pipe.specs.declared.front.Front.TheVariants as front
 use Rattle.cap_base.specs.declared.endings.How.TheVariants as how
-use Rattle.pcap_pipe.specs.Classic.{captured, packet_of, IsHeader, IsRecord, AreRecords, HasNoRecord, Classic}
+use Rattle.pcap_pipe.specs.Laws.{SplitsOnce}
+use Rattle.pcap_pipe.specs.Classic.{form_of, captured, packet_of, IsHeader, IsRecord, AreRecords, HasNoRecord, Classic}
 use Rattle.pcap_pipe.specs.Reading.{Reading, header_front, record_front, records_in, header_in, reading, events, ending}
 use Rattle.pcap_pipe.proofs.Fronts.{field-append, captured-append, whole_record, whole_record-append, whole_header, whole_header-append, wrong_record-append, wrong_header-append}
 use Rattle.cap_base.specs.declared.endings.Code.{Code}
 use Rattle.pcap_pipe.proofs.Going.{record_step, record_stops, header_step, header_stops}
 
 -- a lawful packet record is whole, whatever follows it
-record_is_whole : (form : Form) (first more : List ℕ) (p : Packet) → IsRecord form first p → record_front form (first ++ more) ≡ front.Whole form (length first)
+pub record_is_whole : (form : Form) (first more : List ℕ) (p : Packet) → IsRecord form first p → record_front form (first ++ more) ≡ front.Whole form (length first)
 unfolding record_front
 record_is_whole form first more p u =
     let len : length first ≡ 16 + captured form first = u.len in
@@ -33,7 +34,7 @@ record_is_whole form first more p u =
     rw (cap, a, b, c, d, len) refl
 
 -- and what is whole is a lawful packet record
-whole_is_record : (form same : Form) (text : List ℕ) (k : ℕ) → record_front form text ≡ front.Whole same k → IsRecord form (take k text) (packet_of form (take k text))
+pub whole_is_record : (form same : Form) (text : List ℕ) (k : ℕ) → record_front form text ≡ front.Whole same k → IsRecord form (take k text) (packet_of form (take k text))
 whole_is_record form same text k is =
     let w = whole_record form same text k is in
     let within : k ≤ length text = w.within in
@@ -62,7 +63,7 @@ records_read form at records rest (p ∷ ps) u none =
     ap (λ (t : List ℕ). (records_in form at t).0) grouped ∙ ap (λ (r : Reading). r.0) step
     ∙ rw (take_at first (others ++ rest) (length first) refl, drop_at first (others ++ rest) (length first) refl, made, ih) refl
 
-header_is_whole : (name : List ℕ) (form : Form) (head more : List ℕ) (i : Iface) → IsHeader name form head i → header_front (head ++ more) ≡ front.Whole form 24
+pub header_is_whole : (name : List ℕ) (form : Form) (head more : List ℕ) (i : Iface) → IsHeader name form head i → header_front (head ++ more) ≡ front.Whole form 24
 unfolding header_front
 header_is_whole name form head more i h =
     let len : length head ≡ 24 = h.len in
@@ -131,11 +132,53 @@ packets_are (p ∷ x) (q ∷ y) e =
     let ih = packets_are x y tail in
     cc
 
--- a text has one reading
-pub one_reading : (name text : List ℕ) (f1 f2 : Form) (i1 i2 : Iface) (p1 p2 : List Packet) (r1 r2 : List ℕ) → Classic name text f1 i1 p1 r1 → Classic name text f2 i2 p2 r2 → (i1 ≡ i2) × (p1 ≡ p2)
-one_reading name text f1 f2 i1 i2 p1 p2 r1 r2 a b =
+-- how long packet records are
+record_length : (form : Form) (text : List ℕ) (p : Packet) → IsRecord form text p → length text ≡ 16 + length p.body
+unfolding packet_of
+record_length form text p r =
+    let len : length text ≡ 16 + captured form text = r.len in
+    let body : length p.body ≡ length text - 16 = ap (λ (q : Packet). length q.body) r.is ∙ length-drop 16 text in
+    omega arith
+
+abbrev size_of : List Packet → ℕ
+size_of [] = 0
+size_of (p ∷ ps) = (16 + length p.body) + size_of ps
+
+records_length : (form : Form) (text : List ℕ) (packets : List Packet) → AreRecords form text packets → length text ≡ size_of packets
+records_length form text [] u = ap length u
+records_length form text (p ∷ ps) u =
+    let one : length u.0 ≡ 16 + length p.body = record_length form u.0 p u.3 in
+    let others : length u.1 ≡ size_of ps = records_length form u.1 ps u.4 in
+    ap length u.2 ∙ length-append u.0 u.1 ∙ rw (one, others) refl
+
+-- what stands behind the header and the packet records is the rest
+rest_is : (name text : List ℕ) (form : Form) (i : Iface) (packets : List Packet) (rest : List ℕ) → Classic name text form i packets rest → rest ≡ drop (24 + size_of packets) text
+rest_is name text form i packets rest c =
+    let head : length c.head ≡ 24 = c.header.len in
+    let records : length c.records ≡ size_of packets = records_length form c.records packets c.each in
+    let len : length (c.head ++ c.records) ≡ 24 + size_of packets = length-append c.head c.records ∙ ap (λ (n : ℕ). n + length c.records) head ∙ ap (λ (n : ℕ). 24 + n) records in
+    let whole : text ≡ (c.head ++ c.records) ++ rest = c.whole ∙ sym (append_assoc c.head c.records rest) in
+    sym (ap (drop (24 + size_of packets)) whole ∙ drop_at (c.head ++ c.records) rest (24 + size_of packets) len)
+
+magic_is : (name text : List ℕ) (form : Form) (i : Iface) (packets : List Packet) (rest : List ℕ) → Classic name text form i packets rest → form_of (take 4 text) ≡ Some form
+magic_is name text form i packets rest c =
+    let head : length c.head ≡ 24 = c.header.len in
+    ap (λ (t : List ℕ). form_of (take 4 t)) c.whole ∙ ap form_of (take-append-le 4 c.head (c.records ++ rest) (omega arith)) ∙ c.header.magic
+
+some_is : (a b : Form) → Some a ≡ Some b → a ≡ b
+some_is a b e = cc
+
+-- a text is split in one way
+pub splits_once : SplitsOnce
+splits_once name text f1 f2 i1 i2 p1 p2 r1 r2 a b =
     let e = event_is i1 i2 (map packet p1) (map packet p2) (sym (classic_events name text f1 i1 p1 r1 a) ∙ classic_events name text f2 i2 p2 r2 b) in
-    (e.0, packets_are p1 p2 e.1)
+    let packets : p1 ≡ p2 = packets_are p1 p2 e.1 in
+    record {
+      form = some_is f1 f2 (sym (magic_is name text f1 i1 p1 r1 a) ∙ magic_is name text f2 i2 p2 r2 b);
+      interface = e.0;
+      packets = packets;
+      rest = rest_is name text f1 i1 p1 r1 a ∙ ap (λ (ps : List Packet). drop (24 + size_of ps) text) packets ∙ sym (rest_is name text f2 i2 p2 r2 b);
+    }
 
 -- ---- a defect stays
 

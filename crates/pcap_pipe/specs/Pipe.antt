@@ -1,6 +1,7 @@
 -- What a pipe keeps, and the bytes and events that it stands for.
-use Rattle.std.specs.Prelude.{ℕ, ◌≡◌, ◌≤◌, ◌<◌, ◌+◌, ◌-◌, List, [], ◌∷◌, ◌++◌, length, min, ◌==◌, if◌then◌else◌, Bool, true, false}
+use Rattle.std.specs.Prelude.{ℕ, ◌≡◌, ◌≤◌, ◌<◌, ◌+◌, ◌-◌, List, [], ◌∷◌, ◌++◌, length, drop, min, ◌==◌, if◌then◌else◌, Bool, true, false}
 use Rattle.cap_base.specs.Events.{Event, interface, packet}
+use Rattle.cap_base.specs.declared.endings.Code.{Code}
 use Rattle.cap_base.specs.declared.endings.How.{How}
 use Rattle.cap_base.specs.declared.endings.How.TheVariants as how
 use Rattle.cap_base.specs.declared.steps.Step.{Step}
@@ -46,6 +47,19 @@ IsDrained pipe = ((continues pipe.name pipe.stage pipe.place pipe.kept).0 ≡ []
     Rests (Records form) end = IsOpen end
     Rests (Broken code) end = Unit {0}
 
+-- no defect was met
+abbrev pub is_reading : Pipe → Bool
+is_reading pipe = by_stage pipe.stage
+  where
+    by_stage : Stage → Bool
+    by_stage Header = true
+    by_stage (Records form) = true
+    by_stage (Broken code) = false
+
+-- The kept bytes hold no whole file header or packet record and no defect, and none was met.
+abbrev pub IsWaiting : Pipe → Type 0
+IsWaiting pipe = (is_reading pipe ≡ true) × IsDrained pipe
+
 -- the ending, where nothing is to come: the defect, or Clean behind a header with no byte left, or Cut
 abbrev pub ending_of_rest : Pipe → How
 ending_of_rest pipe = by_stage pipe.stage
@@ -54,6 +68,20 @@ ending_of_rest pipe = by_stage pipe.stage
     by_stage Header = how.Cut pipe.place
     by_stage (Records form) = if length pipe.kept == 0 then how.Clean else how.Cut pipe.place
     by_stage (Broken code) = how.Bad code pipe.place
+
+-- the pipe reads on behind the first bytes that were kept
+pub record Passes (len : ℕ) (next : Stage) (old new : Pipe) : Type 0 where
+  pub name : new.name ≡ old.name
+  pub stage : new.stage ≡ next
+  pub place : new.place ≡ old.place + len
+  pub kept : new.kept ≡ drop len old.kept
+
+-- the pipe has met a defect
+pub record Breaks (code : Code) (old new : Pipe) : Type 0 where
+  pub name : new.name ≡ old.name
+  pub stage : new.stage ≡ Broken code
+  pub place : new.place ≡ old.place
+  pub kept : new.kept ≡ old.kept
 
 -- these bytes were fed
 abbrev pub Feeds : Pipe → Pipe → List ℕ → Type 0
@@ -78,15 +106,6 @@ Steps old new (step.Bad code at) = Gives old new [] × IsDrained new × EndsAs n
 abbrev pub fresh : List ℕ → Pipe
 fresh name = record { name = name; stage = Header; place = 0; kept = [] }
 
--- no defect was met
-abbrev pub is_reading : Pipe → Bool
-is_reading pipe = by_stage pipe.stage
-  where
-    by_stage : Stage → Bool
-    by_stage Header = true
-    by_stage (Records form) = true
-    by_stage (Broken code) = false
-
 -- how many of so many bytes it takes: none after a defect
 abbrev pub room_for : Pipe → ℕ → ℕ
 room_for pipe len = if is_reading pipe then min len (16842752 - length pipe.kept) else 0
@@ -96,7 +115,7 @@ abbrev pub with_kept : Pipe → List ℕ → Pipe
 with_kept pipe more = record pipe { kept = pipe.kept ++ more }
 
 -- What is known of a step besides: each event takes bytes, an interface has the source's name, and nothing that is
--- given has notes. Where more is needed, less than the longest unit is kept.
+-- given has notes. Where more is needed, less than the longest packet record is kept.
 abbrev pub IsLawful : Pipe → Pipe → Step → Type 0
 IsLawful old new (step.Iface i) = (old.place + 24 ≤ new.place) × (i.name ≡ old.name) × (i.notes ≡ []) × (i.resol ≤ 9)
 IsLawful old new (step.Packet p) = (old.place + 16 ≤ new.place) × (p.notes ≡ []) × (length p.body ≤ 262144)

@@ -1,4 +1,4 @@
--- The events of a text, and what the first deciding step says of its rest.
+-- The events of a text, and its ending: what the first deciding step says at the place where the events stop.
 use Rattle.std.specs.Prelude.{ℕ, zero, suc, ◌+◌, ◌≤◌, ◌<◌, ◌==◌, List, [], ◌∷◌, ◌++◌, length, take, drop, nat_lt, if◌then◌else◌}
 use Rattle.std.specs.Option.{option_map_or}
 use Rattle.std.specs.Int.{w16}
@@ -12,14 +12,14 @@ use Rattle.pcap_pipe.specs.declared.front.Front.{Front}
 use Rattle.pcap_pipe.specs.declared.front.Front.TheVariants as front
 use Rattle.pcap_pipe.specs.Classic.{form_of, interface_of, captured, packet_of}
 
--- what stands at a header's place
+-- what stands at a file header's place: the steps decide in this order
 unfoldable pub header_front : List ℕ → Front
 header_front text =
     if nat_lt (length text) 4 then front.Cut else option_map_or
     (λ (form : Form). if nat_lt (length text) 24 then front.Cut else if field form.order w16 text 4 == 2 then front.Whole form 24 else front.Wrong Version)
     (form_of (take 4 text)) (front.Wrong Magic)
 
--- what stands at a packet record's place
+-- what stands at a packet record's place: the steps decide in this order
 unfoldable pub record_front : Form → List ℕ → Front
 record_front form text =
     if length text == 0 then front.Ended else
@@ -27,8 +27,8 @@ record_front form text =
     if nat_lt 262144 (captured form text) then front.Wrong Captured else
     if nat_lt (length text) (16 + captured form text) then front.Cut else front.Whole form (16 + captured form text)
 
--- Whole bytes are at least so many, no more than there are, and no more than a packet record has. Where there are fewer than a
--- whole packet record, there are fewer than the longest one has.
+-- Whole bytes are at least so many, no more than there are, and no more than the longest packet record has. Where less
+-- than a whole packet record stands, it is less than the longest one.
 abbrev pub IsWithin : ℕ → ℕ → Front → Type 0
 IsWithin least most (front.Whole form len) = (least ≤ len) × (len ≤ most) × (len ≤ 262160)
 IsWithin least most front.Cut = most < 262160

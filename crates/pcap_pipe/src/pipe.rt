@@ -1,4 +1,4 @@
-ghost use Rattle.std.specs.Prelude.{◌≡◌, ◌≤◌, ◌<◌, ◌+◌, ◌-◌, ◌^◌, [], min, length, take, drop, IfOk, OnErr};
+ghost use Rattle.std.specs.Prelude.{◌≡◌, ◌≤◌, ◌<◌, ◌+◌, ◌-◌, ◌^◌, ◌↔◌, [], min, length, take, drop, IfOk, OnErr, IsTrue};
 ghost use Rattle.pcap_pipe.specs.Classic.{interface_of, packet_of};
 
 use crate::form::Form;
@@ -12,16 +12,21 @@ use cap_base::{Code, How, Iface, Name, NoMemory, Notes, Octets, Packet, Step, ge
 use std::alloc::Global;
 use std::marker::Model;
 
-/// The most bytes that a pipe keeps.
+/// The most bytes that a pipe keeps: 16 MiB and 64 KiB.
 pub const MOST_KEPT: usize = 16_842_752;
 
-/// A classic text that is read in pieces.
+/// A reader of classic pcap, which is fed the text in pieces of any length.
+///
+/// In a contract it is its name, where it stands in the text, and the bytes that it keeps: those that were fed and not
+/// read yet. `StandsFor` ties it to all bytes fed and all events given, so no contract speaks of the pieces.
 #[derive(Drop)]
 pub struct PcapPipe {
     alloc: Global,
     name: Octets,
     stage: Stage,
+    /// The place of the first kept byte, in all bytes fed.
     place: u64,
+    /// The kept bytes are those from `start` on.
     buffer: Vec<u8>,
     start: usize,
 }
@@ -37,6 +42,7 @@ impl Model for PcapPipe {
     ghost invariant = { λ p. (p.start ≤ length p.buffer.items) × (p.place + length (drop p.start p.buffer.items) ≤ 2 ^ 62) };
 }
 
+/// The interface of a file header.
 #[tactic(auto, unfolding(crate::specs::Classic::interface_of))]
 fn interface_at(alloc: Global, name: &Octets, form: Form, text: &[u8]) -> Result<Iface, NoMemory>
     requires { 24 ≤ length text.now }
@@ -55,6 +61,7 @@ fn interface_at(alloc: Global, name: &Octets, form: Form, text: &[u8]) -> Result
     })
 }
 
+/// The packet of a packet record.
 #[tactic(auto, unfolding(crate::specs::Classic::packet_of))]
 fn packet_at(alloc: Global, form: Form, text: &[u8]) -> Result<Packet, NoMemory>
     requires { 16 ≤ length text.now }
@@ -80,8 +87,8 @@ fn keep_from(buffer: &mut Vec<u8>, start: usize)
     requires { start ≤ length buffer.old.items }
     ensures { buffer.new.items ≡ drop start buffer.old.items }
 {
-    buffer.rotate_left(start);
     let kept = buffer.len() - start;
+    buffer.copy_within(start.., 0);
     buffer.truncate(kept);
 }
 
@@ -103,9 +110,9 @@ fn front_bytes(text: &[u8], len: usize) -> &[u8]
 }
 
 impl PcapPipe {
-    ghost use Rattle.pcap_pipe.specs.Pipe.{Pipe, StandsFor, IsDrained, Feeds, Gives, EndsAs, Steps, IsLawful, fresh, room_for, with_kept, fed_count, ending_of_rest, IsEnd};
+    ghost use Rattle.pcap_pipe.specs.Pipe.{Pipe, StandsFor, IsDrained, IsWaiting, Feeds, Gives, EndsAs, Steps, IsLawful, Passes, Breaks, fresh, room_for, with_kept, fed_count, ending_of_rest, IsEnd};
 
-    /// A pipe that was fed nothing.
+    /// A pipe that was fed nothing. Its interface will have the name.
     pub fn new(alloc: Global, name: Name) -> Result<PcapPipe, NoMemory>
         ensures value { IfOk result (λ p. p ≡ fresh name) }
         ensures stands { IfOk result (λ p. StandsFor p [] []) }
@@ -123,7 +130,8 @@ impl PcapPipe {
         })
     }
 
-    /// Takes as many bytes as bring the kept bytes to the limit at most. After a defect it takes nothing.
+    /// Takes as many bytes as bring the kept bytes to 16,842,752 at most, and answers how many. It answers 0 for a piece
+    /// that isn't empty exactly after a defect, or where so many are kept.
     pub fn feed(&mut self, piece: &[u8]) -> Result<usize, NoMemory>
         requires { fed_count self.old + length piece.now ≤ 2 ^ 62 }
         ensures count { IfOk result (λ n. n ≡ room_for self.old (length piece.now)) }
@@ -142,29 +150,52 @@ impl PcapPipe {
         Ok(count)
     }
 
+    /// The bytes that were fed and not read yet.
+    fn kept(&self) -> &[u8]
+        ensures value { result.now ≡ self.now.kept }
+        ensures bound { self.now.place + length result.now ≤ 2 ^ 62 }
+    {
+        bytes_from(&self.buffer, self.start)
+    }
+
+    /// Reads on behind the first of the kept bytes.
+    fn pass(&mut self, len: usize, next: Stage)
+        requires { len ≤ length self.old.kept }
+        ensures { Passes len next self.old self.new }
+    {
+        self.start += len;
+        self.place += len as u64;
+        self.stage = next;
+    }
+
+    /// Has met a defect, at the first of the kept bytes.
+    fn refuse(&mut self, code: Code) -> Step
+        ensures breaks { Breaks code self.old self.new }
+        ensures step { result ≡ Step.Bad code self.old.place }
+    {
+        self.stage = Stage::Broken(code);
+        Step::Bad {
+            code,
+            at: self.place,
+        }
+    }
+
     fn next_header(&mut self) -> Result<Step, NoMemory>
         requires { self.old.stage ≡ Stage.Header }
         ensures step { IfOk result (λ step. Steps self.old self.new step) }
         ensures lawful { IfOk result (λ step. IsLawful self.old self.new step) }
+        ensures more { IfOk result (λ step. (step ≡ Step.More) ↔ IsWaiting self.old) }
         ensures same { fed_count self.new ≡ fed_count self.old }
         ensures name { self.new.name ≡ self.old.name }
         ensures err { OnErr result (self.new ≡ self.old) }
     {
-        let text = bytes_from(&self.buffer, self.start);
+        let text = self.kept();
         match header_front_of(text) {
             Front::Ended | Front::Cut => Ok(Step::More),
-            Front::Wrong(code) => {
-                self.stage = Stage::Broken(code);
-                Ok(Step::Bad {
-                    code,
-                    at: self.place,
-                })
-            }
+            Front::Wrong(code) => Ok(self.refuse(code)),
             Front::Whole(form, len) => {
                 let iface = interface_at(self.alloc, &self.name, form, front_bytes(text, len))?;
-                self.start += len;
-                self.place += len as u64;
-                self.stage = Stage::Records(form);
+                self.pass(len, Stage::Records(form));
                 Ok(Step::Iface(iface))
             }
         }
@@ -174,34 +205,32 @@ impl PcapPipe {
         requires { self.old.stage ≡ Stage.Records form }
         ensures step { IfOk result (λ step. Steps self.old self.new step) }
         ensures lawful { IfOk result (λ step. IsLawful self.old self.new step) }
+        ensures more { IfOk result (λ step. (step ≡ Step.More) ↔ IsWaiting self.old) }
         ensures same { fed_count self.new ≡ fed_count self.old }
         ensures name { self.new.name ≡ self.old.name }
         ensures err { OnErr result (self.new ≡ self.old) }
     {
-        let text = bytes_from(&self.buffer, self.start);
+        let text = self.kept();
         match record_front_of(form, text) {
             Front::Ended | Front::Cut => Ok(Step::More),
-            Front::Wrong(code) => {
-                self.stage = Stage::Broken(code);
-                Ok(Step::Bad {
-                    code,
-                    at: self.place,
-                })
-            }
+            Front::Wrong(code) => Ok(self.refuse(code)),
             Front::Whole(_, len) => {
                 let packet = packet_at(self.alloc, form, front_bytes(text, len))?;
-                self.start += len;
-                self.place += len as u64;
+                self.pass(len, Stage::Records(form));
                 Ok(Step::Packet(packet))
             }
         }
     }
 
-    /// The next event. More comes where the kept bytes hold no whole packet record and no defect, and a defect is answered
-    /// again from then on.
+    /// The next event: the interface of the file header, then the packets.
+    ///
+    /// `More` comes exactly where the kept bytes hold no whole file header or packet record and no defect. `Bad` comes
+    /// exactly at the first defect, and is answered from then on. `NoMemory` changes nothing.
     pub fn next(&mut self) -> Result<Step, NoMemory>
         ensures step { IfOk result (λ step. Steps self.old self.new step) }
         ensures lawful { IfOk result (λ step. IsLawful self.old self.new step) }
+        ensures more { IfOk result (λ step. (step ≡ Step.More) ↔ IsWaiting self.old) }
+        ensures again { (code : Code) → self.old.stage ≡ Stage.Broken code → (self.new ≡ self.old) × (result ≡ Ok (Step.Bad code self.old.place)) }
         ensures same { fed_count self.new ≡ fed_count self.old }
         ensures name { self.new.name ≡ self.old.name }
         ensures err { OnErr result (self.new ≡ self.old) }
@@ -220,29 +249,38 @@ impl PcapPipe {
     pub fn fed(&self) -> u64
         ensures { result ≡ fed_count self.now }
     {
-        self.place + bytes_from(&self.buffer, self.start).len() as u64
+        self.place + self.kept().len() as u64
     }
 
-    /// How the bytes fed end, where nothing is to come of those that are kept.
+    /// How the kept bytes end, where they hold no event.
+    fn ending_of_rest(&self) -> How
+        ensures end { IsEnd result }
+        ensures how { result ≡ ending_of_rest self.now }
+    {
+        let at = self.place;
+        match self.stage {
+            Stage::Broken(code) => How::Bad { code, at },
+            Stage::Header => How::Cut { at },
+            Stage::Records(_) => {
+                if self.kept().is_empty() {
+                    How::Clean
+                } else {
+                    How::Cut { at }
+                }
+            }
+        }
+    }
+
+    /// How the bytes fed end, where nothing is to come: `Bad` after a defect, `Clean` behind a file header where no byte
+    /// is kept, else `Cut` at the place of the unfinished file header or packet record.
+    ///
+    /// Call it after `next` answered `More` or `Bad`, before the next `feed`.
     pub fn finish(&self) -> How
         requires { IsDrained self.now }
         ensures end { IsEnd result }
         ensures how { result ≡ ending_of_rest self.now }
         ensures ends { EndsAs self.now (λ how. how ≡ result) }
     {
-        match self.stage {
-            Stage::Broken(code) => How::Bad {
-                code,
-                at: self.place,
-            },
-            Stage::Header => How::Cut { at: self.place },
-            Stage::Records(_) => {
-                if bytes_from(&self.buffer, self.start).is_empty() {
-                    How::Clean
-                } else {
-                    How::Cut { at: self.place }
-                }
-            }
-        }
+        self.ending_of_rest()
     }
 }

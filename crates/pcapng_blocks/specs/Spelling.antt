@@ -38,9 +38,9 @@ end_mark = u32 0
 unfoldable pub framed : ℕ → List ℕ → List ℕ
 framed kind body = u32 kind ++ (u32 (length body + 12) ++ (body ++ u32 (length body + 12)))
 
--- a moment in two words, the high one first
-unfoldable pub moment : ℕ → List ℕ
-moment time = u32 (time / 2 ^ 32) ++ u32 (time % 2 ^ 32)
+-- a timestamp: the upper word, then the lower one
+unfoldable pub timestamp : ℕ → List ℕ
+timestamp time = u32 (time / 2 ^ 32) ++ u32 (time % 2 ^ 32)
 
 unfoldable pub section_body : List ℕ
 section_body = u32 0x1A2B3C4D ++ (u16 1 ++ (u16 0 ++ replicate 8 255))
@@ -65,13 +65,13 @@ packet_notes [] = []
 packet_notes (n ∷ ns) = notes_text (n ∷ ns) ++ end_mark
 
 unfoldable pub packet_body : Packet → List ℕ
-packet_body p = u32 p.iface ++ (moment p.time ++ (u32 (length p.body) ++ (u32 p.orig ++ (padded_bytes p.body ++ packet_notes p.notes))))
+packet_body p = u32 p.iface ++ (timestamp p.time ++ (u32 (length p.body) ++ (u32 p.orig ++ (padded_bytes p.body ++ packet_notes p.notes))))
 
 unfoldable pub statistics_counts : ℕ → ℕ → ℕ → List ℕ
 statistics_counts recv drop delivered = option 4 (u64 recv) ++ (option 5 (u64 drop) ++ (option 8 (u64 delivered) ++ end_mark))
 
 unfoldable pub statistics_body : ℕ → ℕ → ℕ → ℕ → ℕ → List ℕ
-statistics_body number time recv drop delivered = u32 number ++ (moment time ++ statistics_counts recv drop delivered)
+statistics_body number time recv drop delivered = u32 number ++ (timestamp time ++ statistics_counts recv drop delivered)
 
 -- the body's type and bytes; the blocks below aren't written
 unfoldable pub spell : Block → List ℕ
