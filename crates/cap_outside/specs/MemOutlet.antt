@@ -1,0 +1,11 @@
+-- What an outlet in memory with failing calls keeps.
+use Rattle.std.specs.Prelude.{List, Bool}
+use Rattle.cap_base.specs.declared.done.Done.{Done}
+use Rattle.cap_outside.specs.declared.outlet.MemOutlet.{MemOutlet}
+use Rattle.cap_outside.specs.SureOutlet as sure
+
+abbrev pub done_of : MemOutlet → List Done
+done_of o = sure.done_of o.outlet
+
+abbrev pub has_current : MemOutlet → Bool
+has_current o = sure.has_current o.outlet
