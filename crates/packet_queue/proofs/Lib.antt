@@ -5,3 +5,4 @@ pub mod SourceCalls
 pub mod StopLoops
 pub mod WriterCalls
 pub mod StepArms
+pub mod PortTurns

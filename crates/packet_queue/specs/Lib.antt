@@ -1,3 +1,4 @@
 pub mod Queue
 pub mod Calls
 pub mod Changes
+pub mod Ends

@@ -15,13 +15,18 @@
 #![tactic(auto)]
 
 mod calls;
+mod drain;
 mod ended;
 mod endings;
 mod joins;
 mod offers;
+mod port;
 mod queue;
 mod stops;
 mod takes;
+mod turns;
 
 pub use calls::{Call, Reply};
+pub use drain::Drain;
+pub use port::Port;
 pub use queue::Queue;
