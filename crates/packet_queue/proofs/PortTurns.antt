@@ -5,7 +5,8 @@ use Rattle.std.proofs.lemmas.List.{append-nil}
 use Rattle.std.proofs.lemmas.Option.{get_or_from_slice_get}
 use Rattle.std.proofs.lemmas.Bool.{cases_lt, cond-false, le-ltb, eq-eqb}
 use Rattle.turn_cell.specs.Passes.{IsPassOf, low, high, made, seen, start}
-use Rattle.cap_base.specs.Callers.{own}
+use Rattle.cap_base.specs.Callers.{own, tag}
+use Rattle.turn_cell.proofs.Lists.{own-append, own-tag}
 use Rattle.cap_base.specs.declared.interface.Iface.{Iface}
 use Rattle.cap_base.specs.declared.packet.Packet.{Packet}
 use Rattle.cap_base.specs.declared.entries.Verdict.{Verdict}
@@ -99,6 +100,10 @@ module _ (c : QueueCell) (port : Port) (q : QueuePass) (e : Entry) (is : IsPortO
     numbers = add ∙ ap (λ (z : List ℕ). z ++ number_of e) is.numbers ∙ sym (ap joined_numbers mine_is ∙ flat_map-push number_of (mine port.pass) e);
     going = ap has_end mine_is ∙ list_any-push is_end (mine port.pass) e ∙ ap (λ (b : Bool). b || is_end e) is.going ∙ going;
   }
+
+-- under the pass's number there are these entries more
+pub mine-push : (c : QueueCell) (p q : QueuePass) (es : List Entry) → TurnOf c p q es → low q ≡ low p → mine q ≡ mine p ++ es
+mine-push c p q es t same = ap (λ (n : ℕ). own n (made q)) same ∙ ap (own (low p)) t.made_now ∙ own-append (low p) (made p) (tag (low p) es) ∙ ap (λ (z : List Entry). own (low p) (made p) ++ z) (own-tag (low p) es)
 
 -- a reply of a kind
 pub turn_as : (c : QueueCell) (p q : QueuePass) (call : Call) (a b : Reply) → a ≡ b → TurnOf c p q (entries_of call a) → TurnOf c p q (entries_of call b)

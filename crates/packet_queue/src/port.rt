@@ -5,7 +5,7 @@ ghost use Rattle.cap_base.specs.declared.entries.Verdict.TheVariants as V;
 ghost use Rattle.cap_base.specs.Carried.{IsFitInterface, IsFitPacket};
 ghost use Rattle.turn_cell.specs.Passes.{IsPassOf, low, high};
 ghost use Rattle.packet_queue.specs.Calls.{back_of};
-ghost use Rattle.packet_queue.specs.Ends.{IsPortOf, TurnOf, IsAnswered, StaysFresh, WearsOut, MakesPort, port_pass, port_source, port_numbers, renumbered};
+ghost use Rattle.packet_queue.specs.Ends.{IsPortOf, TurnOf, IsAnswered, StaysFresh, WearsOut, MakesPort, port_pass, port_source, port_numbers, renumbered, mine};
 
 use crate::calls::{Call, Reply};
 use crate::queue::Queue;
@@ -64,6 +64,7 @@ impl Port {
         ensures source { port_source self.new ≡ port_source self.old }
         ensures numbers { MatchResult result (λ n. port_numbers self.new ≡ port_numbers self.old ++ option_to_list n) (λ e. port_numbers self.new ≡ port_numbers self.old) }
         ensures turn { IfOk result (λ n. TurnOf cell.now (port_pass self.old) (port_pass self.new) (E.Join (port_source self.old) iface n ∷ [])) }
+        ensures added { IfOk result (λ n. mine (port_pass self.new) ≡ mine (port_pass self.old) ++ E.Join (port_source self.old) iface n ∷ []) }
         ensures answer { IfOk result (λ n. IsAnswered cell.now (port_pass self.old) (port_pass self.new) (E.Join (port_source self.old) iface n)) }
         ensures not_worn { IfOk result (λ n. StaysFresh (port_pass self.old) (port_pass self.new)) }
         ensures worn { IfErr result (λ e. WearsOut (port_pass self.old) (port_pass self.new)) }
@@ -99,6 +100,7 @@ impl Port {
         ensures source { port_source self.new ≡ port_source self.old }
         ensures numbers { port_numbers self.new ≡ port_numbers self.old }
         ensures turn { IfOk result (λ r. TurnOf cell.now (port_pass self.old) (port_pass self.new) (E.Offer (port_source self.old) (renumbered self.old packet) r.0 ∷ [])) }
+        ensures added { IfOk result (λ r. mine (port_pass self.new) ≡ mine (port_pass self.old) ++ E.Offer (port_source self.old) (renumbered self.old packet) r.0 ∷ []) }
         ensures answer { IfOk result (λ r. IsAnswered cell.now (port_pass self.old) (port_pass self.new) (E.Offer (port_source self.old) (renumbered self.old packet) r.0)) }
         ensures never_foreign { IfOk result (λ r. r.0 ≢ V.Foreign) }
         ensures back { IfOk result (λ r. r.1 ≡ back_of r.0 (renumbered self.old packet)) }
@@ -131,6 +133,7 @@ impl Port {
         ensures pass { IsPassOf cell.now result.0 }
         ensures only { (low result.0 ≡ port_source self) × (high result.0 ≡ port_source self + 1) }
         ensures turn { result.1 ≡ true → TurnOf cell.now (port_pass self) result.0 (E.End (port_source self) how ∷ []) }
+        ensures added { result.1 ≡ true → mine result.0 ≡ mine (port_pass self) ++ E.End (port_source self) how ∷ [] }
         ensures answer { result.1 ≡ true → IsAnswered cell.now (port_pass self) result.0 (E.End (port_source self) how) }
         ensures not_worn { result.1 ≡ true → StaysFresh (port_pass self) result.0 }
         ensures worn { result.1 ≡ false → WearsOut (port_pass self) result.0 }
