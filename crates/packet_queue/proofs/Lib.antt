@@ -6,3 +6,4 @@ pub mod StopLoops
 pub mod WriterCalls
 pub mod StepArms
 pub mod PortTurns
+pub mod FirstStop

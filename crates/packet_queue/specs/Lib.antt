@@ -2,3 +2,4 @@ pub mod Queue
 pub mod Calls
 pub mod Changes
 pub mod Ends
+pub mod Writer

@@ -30,3 +30,6 @@ pub use calls::{Call, Reply};
 pub use drain::Drain;
 pub use port::Port;
 pub use queue::Queue;
+
+#[cfg(test)]
+mod tests;
