@@ -117,4 +117,3 @@ with_stop q = if q.stopped then q else with_struck_out q
 -- the packets taken last are lost
 abbrev pub with_lost : Queue → ℕ → Queue
 with_lost q lost = record q { tally = update_each one_unwritten (drop (length q.last_taken.items - lost) q.last_taken.items) q.tally }
-

@@ -10,7 +10,10 @@ ghost use Rattle.packet_queue.specs.Writer.{Keeps};
 
 use crate::turns::ask;
 use crate::{Call, Drain, Port, Queue, Reply};
-use cap_base::{CountList, Counts, How, Iface, Item, Limits, NoMemory, Notes, Octets, Packet, Taken, Verdict, Why};
+use cap_base::{
+    CountList, Counts, How, Iface, Item, Limits, NoMemory, Notes, Octets, Packet, Taken, Verdict,
+    Why,
+};
 use std::alloc::Global;
 use std::sync::Wait;
 use std::test::Fail;
@@ -214,7 +217,15 @@ fn play_step<R: Wait>(
             Ok(met)
         }
         Step::Stop(why, lost) => {
-            let met = stop_step(rt, cell, &mut play.writer, why, lost, play.stopped, play.taken)?;
+            let met = stop_step(
+                rt,
+                cell,
+                &mut play.writer,
+                why,
+                lost,
+                play.stopped,
+                play.taken,
+            )?;
             play.stopped = true;
             Ok(met)
         }
@@ -277,7 +288,10 @@ fn limits_of_packets_and_bytes(rt: HostRuntime) -> Result<(), Fail> {
         Step::Offer(0, 4, Verdict::Accepted),
         Step::Offer(1, 5, Verdict::Foreign),
     ];
-    assert!(rt; row(&rt, rt.alloc(), TWO_PACKETS, &steps, counts(4, 1, 0, 1))?, "two packets");
+    assert!(rt;
+        row(&rt, rt.alloc(), TWO_PACKETS, &steps, counts(4, 1, 0, 1))?,
+        "two packets"
+    );
     // Bytes are weighed before the packet is added, also where it has none.
     let ten_bytes = Limits {
         packets: 16384,
@@ -290,7 +304,10 @@ fn limits_of_packets_and_bytes(rt: HostRuntime) -> Result<(), Fail> {
         Step::Offer(0, 6, Verdict::AtLimit),
         Step::Offer(0, 0, Verdict::AtLimit),
     ];
-    assert!(rt; row(&rt, rt.alloc(), ten_bytes, &steps, counts(4, 2, 0, 0))?, "ten bytes");
+    assert!(rt;
+        row(&rt, rt.alloc(), ten_bytes, &steps, counts(4, 2, 0, 0))?,
+        "ten bytes"
+    );
     Ok(())
 }
 
@@ -310,7 +327,10 @@ fn stops(rt: HostRuntime) -> Result<(), Fail> {
         Step::Take(Due::Ending),
         Step::Take(Due::Done),
     ];
-    assert!(rt; row(&rt, rt.alloc(), TWO_PACKETS, &steps, counts(2, 0, 2, 0))?, "struck out");
+    assert!(rt;
+        row(&rt, rt.alloc(), TWO_PACKETS, &steps, counts(2, 0, 2, 0))?,
+        "struck out"
+    );
     // A packet that was taken last is lost, and one that comes late is flushed.
     let steps = [
         Step::Join(0),
@@ -322,7 +342,10 @@ fn stops(rt: HostRuntime) -> Result<(), Fail> {
         Step::Stop(Why::FileFault, 1),
         Step::Offer(0, 1, Verdict::Flushed),
     ];
-    assert!(rt; row(&rt, rt.alloc(), TWO_PACKETS, &steps, counts(3, 0, 2, 1))?, "lost");
+    assert!(rt;
+        row(&rt, rt.alloc(), TWO_PACKETS, &steps, counts(3, 0, 2, 1))?,
+        "lost"
+    );
     Ok(())
 }
 
