@@ -1,5 +1,6 @@
-// An object whose call adds to a sum and answers the sum after it.
-ghost use Rattle.std.specs.Prelude.{◌≡◌, ◌≤◌, ◌<◌, ◌+◌, ◌^◌, false, length, IfOk};
+// Tests over an object whose call adds to a sum and answers the sum after it.
+ghost use Rattle.std.specs.Prelude.{◌≡◌, ℕ, ◌≤◌, ◌<◌, ◌+◌, ◌^◌, false, length, IfOk};
+ghost use Rattle.std.specs.Thread.{IsSync};
 ghost use Rattle.turn_cell.specs.History.{own};
 ghost use Rattle.turn_cell.specs.Passes.{low, high, made, is_worn, history, turns_made, IsPassOf};
 
@@ -8,7 +9,10 @@ use cap_base::{NoMemory, Worn};
 use std::alloc::Global;
 use std::sync::Wait;
 use std::test::Fail;
-use std::thread::{Threads, join_mut};
+use std::thread::{Threads, join, join_mut};
+use std::time::Duration;
+
+const HOUR: u64 = 3_600;
 
 #[derive(Drop)]
 struct Sum {
@@ -104,6 +108,56 @@ fn two_threads_make_their_turns(rt: HostRuntime) -> Result<(), Fail> {
     Ok(())
 }
 
+fn add_one<R: Wait>(rt: &R, cell: &Cell<Sum>, pass: Pass<Sum>, times: u64) -> Pass<Sum>
+    requires { IsPassOf cell.now pass × (high pass ≡ low pass + 1) }
+    ensures pass { IsPassOf cell.now result × (low result ≡ low pass) × (high result ≡ high pass) }
+{
+    let mut pass = pass;
+    let _rising = add_times(rt, cell, &mut pass, times);
+    pass
+}
+
+// A thread for each number.
+fn add_by_all<R: Threads + Wait + Sync>(
+    rt: &R,
+    cell: &Cell<Sum>,
+    pass: Pass<Sum>,
+    from: u32,
+    to: u32,
+    times: u64,
+) -> Pass<Sum>
+    requires { IsPassOf cell.now pass × (low pass ≡ from) × (high pass ≡ to) }
+    ensures pass { IsPassOf cell.now result × (low result ≡ from) × (high result ≡ to) }
+{
+    if to - from == 1 {
+        return add_one(rt, cell, pass, times);
+    }
+    let (mine, rest) = cell.split(pass, from + 1);
+    let (mine, rest) = join(
+        rt,
+        move || -> Pass<Sum>
+            requires { IsPassOf cell.now mine × (high mine ≡ low mine + 1) }
+            ensures { IsPassOf cell.entry.now result × (low result ≡ low mine) × (high result ≡ high mine) }
+        { add_one(rt, cell, mine, times) },
+        move || -> Pass<Sum>
+            requires { IsSync R.row × IsPassOf cell.now rest × (from + 1 < to) × (low rest ≡ from + 1) × (high rest ≡ to) }
+            ensures { IsPassOf cell.entry.now result × (low result ≡ from + 1) × (high result ≡ to) }
+        { add_by_all(rt, cell, rest, from + 1, to, times) },
+    );
+    cell.join(mine, rest)
+}
+
+#[test]
+fn more_threads_than_processors_make_their_turns(rt: HostRuntime) -> Result<(), Fail> {
+    let Ok((cell, pass)) = Cell::new(rt.alloc(), Sum { total: 0 }, 16, 1 << 56) else {
+        panic!(rt; "no memory")
+    };
+    let pass = add_by_all(&rt, &cell, pass, 0, 16, 100);
+    let (sum, front) = cell.close(pass);
+    assert!(rt; sum.total == 1600 && front.turns() == 1600);
+    Ok(())
+}
+
 #[test]
 fn the_third_of_two_turns_is_refused(rt: HostRuntime) -> Result<(), Fail> {
     let Ok((cell, mut pass)) = Cell::new(rt.alloc(), Sum { total: 0 }, 1, 2) else {
@@ -145,5 +199,57 @@ fn parts_join_in_another_order(rt: HostRuntime) -> Result<(), Fail> {
     assert!(rt; matches!(&fifth, Ok(4)));
     let (sum, front) = cell.close(all);
     assert!(rt; sum.total == 4 && front.turns() == 5);
+    Ok(())
+}
+
+// Each sleep may last an hour, so this ends in time only if passed turns end the sleeps.
+fn sleep_until<R: Wait>(rt: &R, cell: &Cell<Sum>, turns: u64) {
+    for _ in rt.forever() {
+        let seen = cell.passed();
+        if seen >= turns {
+            return;
+        }
+        cell.rest(rt, seen, Duration::from_secs(HOUR));
+    }
+}
+
+// Nobody else takes a turn, so each sleep ends after its time.
+fn add_slowly<R: Wait>(rt: &R, cell: &Cell<Sum>, pass: &mut Pass<Sum>, times: u64)
+    requires { IsPassOf cell.now pass.old }
+    ensures { IsPassOf cell.now pass.new × (low pass.new ≡ low pass.old) × (high pass.new ≡ high pass.old) }
+{
+    for _ in 0..times {
+        add_times(rt, cell, pass, 1);
+        cell.rest(rt, cell.passed(), Duration::from_micros(200));
+    }
+}
+
+fn sleep_beside<R: Threads + Wait + Sync>(
+    rt: &R,
+    cell: &Cell<Sum>,
+    pass: &mut Pass<Sum>,
+    turns: u64,
+)
+    requires { IsPassOf cell.now pass.old }
+    ensures { IsPassOf cell.now pass.new × (low pass.new ≡ low pass.old) × (high pass.new ≡ high pass.old) }
+{
+    join_mut(
+        rt,
+        &mut || sleep_until(rt, cell, turns),
+        &mut || add_slowly(rt, cell, pass, turns),
+    );
+}
+
+#[test]
+fn a_sleep_ends_when_a_turn_passes_and_after_its_time(rt: HostRuntime) -> Result<(), Fail> {
+    let Ok((cell, mut pass)) = Cell::new(rt.alloc(), Sum { total: 0 }, 1, 1 << 56) else {
+        panic!(rt; "no memory")
+    };
+    assert!(rt; cell.passed() == 0);
+    cell.rest(&rt, 0, Duration::from_millis(1));
+    sleep_beside(&rt, &cell, &mut pass, 100);
+    assert!(rt; cell.passed() == 100);
+    let (sum, front) = cell.close(pass);
+    assert!(rt; sum.total == 100 && front.turns() == 100);
     Ok(())
 }

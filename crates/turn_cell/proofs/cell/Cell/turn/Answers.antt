@@ -3,12 +3,12 @@ use Rattle.turn_cell.specs.declared.view.Stage.TheVariants.{Idle, Worn}
 use Rattle.turn_cell.specs.declared.pass.Pass.{Pass}
 use Rattle.turn_cell.specs.History.{tag, Turned}
 use Rattle.turn_cell.specs.Transitions.{after_turn}
-use Rattle.turn_cell.proofs.Keeps.{draws}
-use Rattle.turn_cell.proofs.Turning.{ready, made_after, stands_after, is_turn, pass_after}
+use Rattle.turn_cell.proofs.DrawStep.{draw_keeps}
+use Rattle.turn_cell.proofs.TurnContract.{ready, made_after, stands_after, is_turn, pass_after}
 use Rattle.turn_cell.proofs.cell.Cell.turn.Goals as goal
 
 pub fetch_add-ticket-requires : goal.fetch_add-ticket-requires
-fetch_add-ticket-requires g c = let o = g.O.TurnObject in (search rules, search rules, draws o.stands_for (Turned o.entries o.admits) _ _ _ _ (c.requires.pass.stage ∙ ap (λ (b : Bool). cond b Worn Idle) c.if-pass.false) c.requires.pass.some_number)
+fetch_add-ticket-requires g c = let o = g.O.TurnObject in (search rules, search rules, draw_keeps o.stands_for (Turned o.entries o.admits) _ _ _ _ (c.requires.pass.stage ∙ ap (λ (b : Bool). cond b Worn Idle) c.if-pass.false) c.requires.pass.some_number)
 
 pub step-reply-requires : goal.step-reply-requires
 step-reply-requires g c = let o = g.O.TurnObject in let p = c.args.pass.now in

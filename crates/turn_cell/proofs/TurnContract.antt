@@ -10,7 +10,8 @@ use Rattle.turn_cell.specs.declared.view.Stage.TheVariants.{Idle, Waiting, Holdi
 use Rattle.turn_cell.specs.History.{own, tag, Turned}
 use Rattle.turn_cell.specs.Transitions.{Draws, HasTurn, after_turn}
 use Rattle.turn_cell.specs.Passes.{IsPassOf, IsTurn, low, high, made, seen}
-use Rattle.turn_cell.proofs.Lists.{own-append, own-tag_other, room}
+use Rattle.turn_cell.proofs.OwnEntries.{own-append, own-tag_other}
+use Rattle.turn_cell.proofs.HistoryLength.{room}
 
 module _ {O C R E : Type 0} (stands_for : O → O → List (ℕ × E) → Type 0) (entries : C → R → List E) (admits : O → ℕ → List E → C → Type 0) (c : Cell O C R E) where
   abbrev M : Type 0
@@ -22,6 +23,7 @@ module _ {O C R E : Type 0} (stands_for : O → O → List (ℕ × E) → Type 0
   abbrev k : Key O
   k = c.table.shared.key
 
+  -- made by so many turns
   abbrev pub turned : ℕ → O → ℕ → List (ℕ × E) → Type 0
   turned = Turned entries admits
 
@@ -78,12 +80,15 @@ module _ {O C R E : Type 0} (stands_for : O → O → List (ℕ × E) → Type 0
     abbrev pub Few : Type 0
     Few = (0 < length es) × (length es ≤ 64)
 
+    -- the history with the entries of this turn
     made_one : Few → turned k.callers k.start.value (suc t) ((seen p ++ h.between) ++ tag (low p) es)
     made_one few = (seen p ++ h.between, low p, call, reply, h.made_by, h.known, h.admitted, few.0, few.1, refl)
 
+    -- the same, as the seat has it
     pub made_after : Few → turned k.callers k.start.value (suc t) (w.0.seen ++ tag w.0.low es)
     made_after few = subst (λ (z : V). turned k.callers k.start.value (suc t) (z.seen ++ tag z.low es)) (sym h.view) (made_one few)
 
+    -- the object after the call stands for it
     pub stands_after : (y : O) → stands_for k.start.value y ((seen p ++ h.between) ++ tag (low p) es) → stands_for k.start.value y (w.0.seen ++ tag w.0.low es)
     stands_after y g = subst (λ (z : V). stands_for k.start.value y (z.seen ++ tag z.low es)) (sym h.view) g
 
@@ -91,9 +96,11 @@ module _ {O C R E : Type 0} (stands_for : O → O → List (ℕ × E) → Type 0
     abbrev now : V
     now = record p.seat.me.0 { seen = (seen p ++ h.between) ++ tag (low p) es; made = made p ++ tag (low p) es; stage = Idle }
 
+    -- the view that the pass has then
     now_is : (q : Pass O C R E) → q.seat.me ≡ (after_turn w.0 es, []) → q.seat.me.0 ≡ now
     now_is q e = ap (λ (z : M). z.0) e ∙ ap (λ (z : V). after_turn z es) h.view
 
+    -- what the turn ensures of the history
     pub is_turn : (q : Pass O C R E) (y : O) → Few → stands_for k.start.value y ((seen p ++ h.between) ++ tag (low p) es) → q.seat.me ≡ (after_turn w.0 es, []) → IsTurn stands_for turned c p q es
     is_turn q y few g e = record {
       number = few;
@@ -113,6 +120,7 @@ module _ {O C R E : Type 0} (stands_for : O → O → List (ℕ × E) → Type 0
       is : q.seat.me.0 ≡ now
       is = now_is q e
 
+    -- the pass is between two turns again
     pub pass_after : (q : Pass O C R E) → IsPassOf c p → q.seat.table_id ≡ p.seat.table_id → q.worn ≡ false → q.seat.me ≡ (after_turn w.0 es, []) → IsPassOf c q × (low q ≡ low p) × (high q ≡ high p)
     pass_after q i tab fresh e = (
       record {
