@@ -1,11 +1,8 @@
 -- The first stop of a writer, and what it keeps of its entries.
-use Rattle.std.proofs.Common.{◌≡◌, ℕ, ◌+◌, ◌<◌, ◌≤◌, Bool, true, false, ◌||◌, List, [], ◌∷◌, ◌++◌, length, refl, sym, ap, ◌∙◌, subst, arith, length-append}
+use Rattle.std.proofs.Common.{◌≡◌, ℕ, ◌+◌, ◌≤◌, Bool, true, false, ◌||◌, List, [], ◌∷◌, ◌++◌, length, refl, sym, ap, ◌∙◌, subst, arith, length-append}
 use Rattle.std.specs.List.{flat_map, list_any, sum_by}
 use Rattle.cap_base.specs.declared.entries.Why.{Why}
 use Rattle.cap_base.specs.declared.entries.Item.{Item}
-use Rattle.cap_base.specs.declared.entries.Taken.{Taken}
-use Rattle.cap_base.specs.declared.entries.Taken.TheVariants as T
-use Rattle.cap_base.specs.declared.entries.Item.TheVariants as I
 use Rattle.cap_base.specs.declared.entries.Entry.{Entry}
 use Rattle.cap_base.specs.declared.entries.Entry.TheVariants as E
 use Rattle.cap_base.specs.Histories.{packets, answer_of}

@@ -6,7 +6,7 @@ use Rattle.std.proofs.lemmas.Option.{get_or_from_slice_get}
 use Rattle.std.proofs.lemmas.Bool.{cases_lt, cond-false, le-ltb, eq-eqb}
 use Rattle.turn_cell.specs.Passes.{IsPassOf, low, high, made, seen, start}
 use Rattle.cap_base.specs.Callers.{own, tag}
-use Rattle.turn_cell.proofs.Lists.{own-append, own-tag}
+use Rattle.turn_cell.proofs.OwnEntries.{own-append, own-tag}
 use Rattle.cap_base.specs.declared.interface.Iface.{Iface}
 use Rattle.cap_base.specs.declared.packet.Packet.{Packet}
 use Rattle.cap_base.specs.declared.entries.Verdict.{Verdict}
