@@ -4,6 +4,7 @@ pub mod AfterEntry
 pub mod SourceCalls
 pub mod StopLoops
 pub mod WriterCalls
+pub mod StopCall
 pub mod StepArms
 pub mod PortTurns
 pub mod FirstStop

@@ -35,12 +35,15 @@ module _ (c : QueueCell) (p q : QueuePass) (e : Entry) (t : TurnOf c p q (e ∷ 
   pub answered_so : Admitted (sources_of (start c)) (low p) (own (low p) before) e × Answers (limits_of (start c)) (sources_of (start c)) before e
   answered_so = t.legal.1.legal before (low p) e [] (t.seen_now ∙ sym (append-nil (before ++ (low p, e) ∷ [])))
 
+  -- so the entry is answered by the history before it
   pub is_answered : IsAnswered c p q e
   is_answered = record { between = t.between; last = t.seen_now; answer = answered_so.1 }
 
+  -- before the turn the history has, under the least number, what the pass had made
   pub own_before : low p < high p → own (low p) before ≡ mine p
   own_before lt = t.once_before (low p) (omega arith, lt)
 
+  -- after it there is this entry more
   pub mine_now : low q ≡ low p → mine q ≡ mine p ++ e ∷ []
   mine_now same = ap (λ (n : ℕ). own n (made q)) same ∙ ap (own (low p)) t.made_now ∙ own_here (low p) (made p) e
 
@@ -115,10 +118,12 @@ module _ (c : QueueCell) (port : Port) (q : QueuePass) (x : Packet) (n : ℕ) (s
   number_is : n ≡ get_or (port_numbers port) x.iface 0
   number_is = sym (get_or_from_slice_get (port_numbers port) x.iface n 0 (sym slot))
 
+  -- the turn added the offer of the packet under its output number
   pub offer_turn : (v : Verdict) (back : Option Packet) (r : Reply) → r ≡ R.Offered v back → TurnOf c (port_pass port) q (entries_of (C.Offer (port_source port) (numbered x n)) r) → TurnOf c (port_pass port) q (E.Offer (port_source port) (renumbered port x) v ∷ [])
   offer_turn v back r e t = subst (λ (m : ℕ). TurnOf c (port_pass port) q (E.Offer (port_source port) (numbered x m) v ∷ [])) number_is
       (turn_as c (port_pass port) q (C.Offer (port_source port) (numbered x n)) r (R.Offered v back) e t)
 
+  -- the packet comes back as it was given, under its output number
   pub offer_back : (v : Verdict) (back : Option Packet) (r : Reply) → r ≡ R.Offered v back → IsReplyTo (C.Offer (port_source port) (numbered x n)) r → back ≡ back_of v (renumbered port x)
   offer_back v back r e a = subst (IsReplyTo (C.Offer (port_source port) (numbered x n))) e a ∙ ap (λ (m : ℕ). back_of v (numbered x m)) number_is
 
@@ -165,6 +170,8 @@ numbers_room c port q i n is t = let a : length (joined_numbers (own (low port.p
       few : length (owners b) < 256
       few = ⊎_elim (λ lt. lt) (λ le. absurd (let w : Some n ≡ None = (answered_so c port.pass q (E.Join port.source i (Some n)) t).1 ∙ cond-false _ (Some (length (owners b))) None (le-ltb (length (owners b)) 256 le) in cc)) (cases_lt (length (owners b)) 256)
 
+-- an option that is no Some is None
 pub none_is : (o : Option ℕ) → ((n : ℕ) → o ≡ Some n → ⊥) → o ≡ None
 none_is None f = refl
+-- an option that is no Some is None
 none_is (Some n) f = absurd (f n refl)

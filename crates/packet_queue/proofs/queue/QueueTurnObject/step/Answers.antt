@@ -14,7 +14,8 @@ use Rattle.packet_queue.specs.Calls.{Admits, entries_of}
 use Rattle.packet_queue.specs.Queue.{StandsFor}
 use Rattle.packet_queue.specs.Changes.{occurrences, with_lost, reply_with, verdict_by_fields, after_take}
 use Rattle.packet_queue.proofs.StepArms.{can_step_as, join_room, join_tally, join_after, offer_ready, offer_number, offer_after, end_known, end_room, end_after, step_take_ready}
-use Rattle.packet_queue.proofs.WriterCalls.{tally_stands, take_stands, stop_stands, stop_known, stop_small, lose_few, lose_known, lose_small, lose_written}
+use Rattle.packet_queue.proofs.WriterCalls.{tally_stands, take_stands}
+use Rattle.packet_queue.proofs.StopCall.{stop_stands, stop_known, stop_small, lose_few, lose_known, lose_small, lose_written}
 use Rattle.packet_queue.proofs.queue.QueueTurnObject.step.Goals as goal
 
 pub join-requires-clause-room : goal.join-requires-clause-room
