@@ -89,8 +89,8 @@ offer_ready x s p (start, h, by, st, small, adm) = (known_source, go (verdict_by
 
   go : (v : Verdict) → verdict_by_fields x s p.iface ≡ v → CanAnswer x v p
   go V.Foreign q = tt
-  go V.AtLimit q = let is : V.AtLimit ≡ verdict_of start.limits h s p.iface = sym q ∙ verdict_by_fields-history start x h s p.iface st adm.0.1 in let c = small_counts V.AtLimit is (λ r. cc) in (known_tally start x h s p V.AtLimit st (refl, adm.0.1) adm.1 is (λ r. cc), c.0, c.1)
-  go V.Flushed q = let is : V.Flushed ≡ verdict_of start.limits h s p.iface = sym q ∙ verdict_by_fields-history start x h s p.iface st adm.0.1 in let c = small_counts V.Flushed is (λ r. cc) in (known_tally start x h s p V.Flushed st (refl, adm.0.1) adm.1 is (λ r. cc), c.0, c.2)
+  go V.AtLimit q = let is : V.AtLimit ≡ verdict_of start.limits h s p.iface = sym q ∙ verdict_by_fields-history start x h s p.iface st adm.0.1 in let c = small_counts V.AtLimit is (λ r. cc) in (known_tally start x h s p V.AtLimit st (refl, adm.0.1) adm.1 is (λ r. cc), c.0, c.1, c.2)
+  go V.Flushed q = let is : V.Flushed ≡ verdict_of start.limits h s p.iface = sym q ∙ verdict_by_fields-history start x h s p.iface st adm.0.1 in let c = small_counts V.Flushed is (λ r. cc) in (known_tally start x h s p V.Flushed st (refl, adm.0.1) adm.1 is (λ r. cc), c.0, c.1, c.2)
   go V.Accepted q = let is : V.Accepted ≡ verdict_of start.limits h s p.iface = sym q ∙ verdict_by_fields-history start x h s p.iface st adm.0.1 in let c = small_counts V.Accepted is (λ r. cc) in
       let says = accepted_says start.limits start.sources h s s p.iface is in let few : length (standing h) < start.limits.packets = leb-false start.limits.packets (length (standing h)) ((or_parts _ _ says.2).0) in let most : start.limits.packets ≤ 16384 = st.small.0 in
       let a : x.packets ≡ length (standing h) = st.packets_are in let b : x.bytes ≡ body_sum (standing h) = st.bytes_are in let d : body_sum (standing h) ≤ length (standing h) * 262144 = body_sum-le (standing h) w.line.fit in let f : length p.body ≤ 262144 = adm.1.body in

@@ -63,10 +63,13 @@ after_offer q V.Foreign p = q
 abbrev pub reply_with : Verdict → Packet → Reply
 reply_with v p = R.Offered v (back_of v p)
 
+abbrev pub CanCount : Queue → ℕ → Type 0
+CanCount q n = (n < length q.tally) × ((counts_at q.tally n).recv < 2 ^ 62) × ((counts_at q.tally n).drop < 2 ^ 62) × ((counts_at q.tally n).flush < 2 ^ 62)
+
 abbrev pub CanAnswer : Queue → Verdict → Packet → Type 0
 CanAnswer q V.Accepted p = (length q.items.items < q.items.capacity) × (p.iface < length q.tally) × ((counts_at q.tally p.iface).recv < 2 ^ 62) × (q.packets < 2 ^ 62) × (q.bytes + length p.body < 2 ^ 62)
-CanAnswer q V.AtLimit p = (p.iface < length q.tally) × ((counts_at q.tally p.iface).recv < 2 ^ 62) × ((counts_at q.tally p.iface).drop < 2 ^ 62)
-CanAnswer q V.Flushed p = (p.iface < length q.tally) × ((counts_at q.tally p.iface).recv < 2 ^ 62) × ((counts_at q.tally p.iface).flush < 2 ^ 62)
+CanAnswer q V.AtLimit p = CanCount q p.iface
+CanAnswer q V.Flushed p = CanCount q p.iface
 CanAnswer q V.Foreign p = Unit {0}
 
 abbrev pub CanOffer : Queue → ℕ → Packet → Type 0

@@ -2,7 +2,7 @@
 ghost use Rattle.std.specs.Prelude.{◌≡◌, ◌+◌, ◌^◌, ◌<◌, length};
 ghost use Rattle.cap_base.specs.Fates.{owns};
 ghost use Rattle.drop_counters.specs.Tally.{counts_at};
-ghost use Rattle.packet_queue.specs.Changes.{verdict_by_fields, is_full_by_fields, with_packet, with_dropped, with_flushed, CanOffer, after_offer, reply_with};
+ghost use Rattle.packet_queue.specs.Changes.{verdict_by_fields, is_full_by_fields, with_packet, with_dropped, with_flushed, CanOffer, CanCount, after_offer, reply_with};
 
 use crate::calls::Reply;
 use crate::queue::Queue;
@@ -90,8 +90,7 @@ impl Queue {
 
     /// Counts a packet that is dropped at a limit.
     fn count_dropped(&mut self, number: u16)
-        requires known { number < length self.old.tally }
-        requires small { ((counts_at self.old.tally number).recv < 2 ^ 62) × ((counts_at self.old.tally number).drop < 2 ^ 62) }
+        requires { CanCount self.old number }
         ensures { self.new ≡ with_dropped self.old number }
     {
         self.tally.received(number);
@@ -100,8 +99,7 @@ impl Queue {
 
     /// Counts a packet that is flushed, since it comes after a stop.
     fn count_flushed(&mut self, number: u16)
-        requires known { number < length self.old.tally }
-        requires small { ((counts_at self.old.tally number).recv < 2 ^ 62) × ((counts_at self.old.tally number).flush < 2 ^ 62) }
+        requires { CanCount self.old number }
         ensures { self.new ≡ with_flushed self.old number }
     {
         self.tally.received(number);
