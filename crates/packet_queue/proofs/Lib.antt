@@ -1,0 +1,10 @@
+pub mod Counting
+pub mod EndedFlags
+pub mod AfterEntry
+pub mod SourceCalls
+pub mod StopLoops
+pub mod WriterCalls
+pub mod StopCall
+pub mod StepArms
+pub mod PortTurns
+pub mod FirstStop

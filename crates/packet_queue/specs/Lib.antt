@@ -1,0 +1,5 @@
+pub mod Queue
+pub mod Calls
+pub mod Changes
+pub mod Ends
+pub mod Writer
