@@ -14,6 +14,8 @@
 //! | `E` | an `E` message with a text and 0, and another one |
 #![tactic(auto)]
 
+mod bodies;
+mod frame;
 mod said;
 mod spelling;
 
