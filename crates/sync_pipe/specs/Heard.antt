@@ -1,5 +1,5 @@
 -- The messages of a text, and its first defect.
-use Rattle.std.specs.Prelude.{◌≡◌, ℕ, zero, suc, ◌+◌, ◌≤◌, nat_lt, ◌==◌, if◌then◌else◌, Option, Some, None, List, [], ◌∷◌, ◌++◌, length, take, drop, slice_index}
+use Rattle.std.specs.Prelude.{◌≡◌, ℕ, zero, suc, ◌+◌, ◌≤◌, nat_lt, if◌then◌else◌, true, Option, Some, None, List, [], ◌∷◌, ◌++◌, length, take, drop, slice_index}
 use Rattle.sync_pipe.specs.declared.said.Said.{Said}
 use Rattle.sync_pipe.specs.declared.frame.Frame.{Frame}
 use Rattle.sync_pipe.specs.declared.frame.Frame.TheVariants.{Cut, TooLong, Known, Unknown}
@@ -13,11 +13,11 @@ frame text =
     if nat_lt (length text) (4 + body_length text) then Cut else
     if is_known (slice_index text 0) then Known (body_length text) else Unknown (body_length text)
 
--- a whole message is there; where none is, there are fewer bytes than the longest one has
+-- a whole message is there, of a known type or not; where none is, there are fewer bytes than the longest one has
 abbrev pub IsWithin : List ℕ → Frame → Type 0
 IsWithin text Cut = length text ≤ 65539
 IsWithin text TooLong = 4 ≤ length text
-IsWithin text (Known n) = 4 + n ≤ length text
+IsWithin text (Known n) = (4 + n ≤ length text) × (is_known (slice_index text 0) ≡ true)
 IsWithin text (Unknown n) = 4 + n ≤ length text
 
 -- messages, and the place of a defect

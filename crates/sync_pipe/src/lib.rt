@@ -15,9 +15,12 @@
 #![tactic(auto)]
 
 mod bodies;
+mod finding;
 mod frame;
+mod reader;
 mod said;
 mod spelling;
 
+pub use reader::{Heard, SyncReader};
 pub use said::Said;
 pub use spelling::message;
