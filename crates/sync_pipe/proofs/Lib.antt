@@ -3,3 +3,4 @@ pub mod Utf8Names
 pub mod Frames
 pub mod Hearings
 pub mod Continuing
+pub mod Sayable

@@ -24,3 +24,6 @@ mod spelling;
 pub use reader::{Heard, SyncReader};
 pub use said::Said;
 pub use spelling::message;
+
+#[cfg(test)]
+mod tests;
