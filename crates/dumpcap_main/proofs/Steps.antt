@@ -253,3 +253,11 @@ last_read progress.Ended p0 p1 left e0 e1 f0 f1 n t = let r : min (e0 + 1) (2 ^ 
 last_read progress.Failed p0 p1 left e0 e1 f0 f1 n t = let r : min (f0 + 1) (2 ^ 64 - 1) ≤ f1 = t.1 in (t.0, omega arith)
 last_read progress.Broken p0 p1 left e0 e1 f0 f1 n t = (t.0, t.1)
 last_read progress.TooLong p0 p1 left e0 e1 f0 f1 n t = (t.0, t.1)
+
+-- what waits was handed over behind the events
+pub events_out : {L : Type 0} {stands_for : L → List Effect → Type 0} {p0 p1 : Pipe} {o0 o1 o2 : Output L} {t0 t1 : Tally} → EventsWritten stands_for p0 p1 o0 o1 t0 t1 → Wrote stands_for o1 o2 [] → EventsWritten stands_for p0 p1 o0 o2 t0 t1
+events_out {L} {stands_for} {p0} {p1} {o0} {o1} {o2} e w = record { more = e.more; name = e.name; gives = e.gives; wrote = wrote_as stands_for o0 o2 (written e.more ++ []) (written e.more) (append-nil (written e.more)) (wrote_both e.wrote w); counts = e.counts }
+
+-- or a front of it
+pub events_out_part : {L : Type 0} {stands_for : L → List Effect → Type 0} {p0 p1 : Pipe} {o0 o1 : Output L} {l2 : L} {t0 t1 : Tally} → EventsWritten stands_for p0 p1 o0 o1 t0 t1 → WroteFront stands_for o1 l2 [] → EventsPart stands_for p0 p1 o0 l2
+events_out_part {L} {stands_for} {p0} {p1} {o0} {o1} {l2} e w = record { more = e.more; name = e.name; gives = e.gives; wrote = front_as stands_for o0 l2 (written e.more ++ []) (written e.more) (append-nil (written e.more)) (front_both e.wrote w) }
