@@ -59,9 +59,9 @@ const ONE_PACKET: [u8; 64] = [
 /// The file of one packet.
 const WHOLE: [&[u8]; 4] = [&SECTION, &DESCRIPTION, &BLOCK, &ONE_PACKET];
 
-const NONE: &str = "interface 0 a: received 0 written 0 dropped 0 flushed 0\n";
+const NONE: &[u8] = b"interface 0 a: received 0 written 0 dropped 0 flushed 0\n";
 
-const ONE: &str = "interface 0 a: received 1 written 1 dropped 0 flushed 0\n";
+const ONE: &[u8] = b"interface 0 a: received 1 written 1 dropped 0 flushed 0\n";
 
 /// The calls that fail.
 #[derive(Clone, Copy)]
@@ -175,7 +175,7 @@ fn worked_rows(rt: HostRuntime) -> Result<(), Fail> {
             fails: NO_FAILS,
             exit: 0,
             file: &[&SECTION, &DESCRIPTION, &NO_PACKET],
-            said: &[NONE.as_bytes(), b"files 1\n"],
+            said: &[NONE, b"files 1\n"],
         },
         // one packet
         Row {
@@ -184,7 +184,7 @@ fn worked_rows(rt: HostRuntime) -> Result<(), Fail> {
             fails: NO_FAILS,
             exit: 0,
             file: &[&SECTION, &DESCRIPTION, &BLOCK, &ONE_PACKET],
-            said: &[ONE.as_bytes(), b"files 1\n"],
+            said: &[ONE, b"files 1\n"],
         },
         // the same, big-endian, a byte a read
         Row {
@@ -193,7 +193,7 @@ fn worked_rows(rt: HostRuntime) -> Result<(), Fail> {
             fails: NO_FAILS,
             exit: 0,
             file: &[&SECTION, &DESCRIPTION, &BLOCK, &ONE_PACKET],
-            said: &[ONE.as_bytes(), b"files 1\n"],
+            said: &[ONE, b"files 1\n"],
         },
         // no bytes
         Row {
@@ -211,7 +211,7 @@ fn worked_rows(rt: HostRuntime) -> Result<(), Fail> {
             fails: NO_FAILS,
             exit: 2,
             file: &[&SECTION, &DESCRIPTION, &BLOCK, &ONE_PACKET],
-            said: &[ONE.as_bytes(), b"source a: cut at 44\nfiles 1\n"],
+            said: &[ONE, b"source a: cut at 44\nfiles 1\n"],
         },
         // a captured length above the limit
         Row {
@@ -220,7 +220,7 @@ fn worked_rows(rt: HostRuntime) -> Result<(), Fail> {
             fails: NO_FAILS,
             exit: 2,
             file: &[&SECTION, &DESCRIPTION, &NO_PACKET],
-            said: &[NONE.as_bytes(), b"source a: bad captured at 24\nfiles 1\n"],
+            said: &[NONE, b"source a: bad captured at 24\nfiles 1\n"],
         },
     ];
     for row in &rows {
