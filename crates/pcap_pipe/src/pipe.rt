@@ -82,11 +82,14 @@ fn packet_at(alloc: Global, form: Form, text: &[u8]) -> Result<Packet, NoMemory>
     })
 }
 
-/// Drops the bytes before a place.
+/// Drops the bytes before a place. Where there are none, nothing is moved.
 fn keep_from(buffer: &mut Vec<u8>, start: usize)
     requires { start ≤ length buffer.old.items }
     ensures { buffer.new.items ≡ drop start buffer.old.items }
 {
+    if start == 0 {
+        return;
+    }
     let kept = buffer.len() - start;
     buffer.copy_within(start.., 0);
     buffer.truncate(kept);
