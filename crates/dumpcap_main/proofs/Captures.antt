@@ -1,9 +1,8 @@
 -- From the parts of a capture to the whole.
-use Rattle.std.proofs.Common.{◌≡◌, ℕ, ◌+◌, ◌<◌, List, [], ◌∷◌, ◌++◌, length, refl, sym, ap, ◌∙◌, subst, append_assoc, Option, Some, None}
-use Rattle.std.specs.Option.{option_map}
+use Rattle.std.proofs.Common.{◌≡◌, ℕ, ◌<◌, List, [], ◌∷◌, ◌++◌, length, refl, sym, ap, ◌∙◌, subst, append_assoc, Option, Some, None}
 use Rattle.std.proofs.lemmas.List.{append-nil}
 use Rattle.cap_base.specs.Events.{Event}
-use Rattle.cap_base.specs.Effects.{Effect, bytes, saying, finished, created}
+use Rattle.cap_base.specs.Effects.{Effect, bytes, finished, created}
 use Rattle.cap_base.specs.declared.endings.How.{How}
 use Rattle.cap_base.specs.declared.endings.How.TheVariants as hows
 use Rattle.cap_outside.specs.Told.{Leads, Grows, Shrinks, Tells}
@@ -16,8 +15,8 @@ use Rattle.dumpcap_main.specs.declared.progress.Progress.TheVariants as progress
 use Rattle.dumpcap_main.specs.Output.{Output, output, Wrote, WroteFront}
 use Rattle.dumpcap_main.specs.Text.{written, counted, nothing_counted, tally_of, closing, section_text, file_text, content_effects, file_effects}
 use Rattle.dumpcap_main.specs.Recorded.{Runs, Recorded, RecordedPart, LastReadIs, IsBadHow}
-use Rattle.dumpcap_main.specs.Capture.{SourceFacts, source_facts, not_opened, whole_of, HowIs, HowOf, DidFront, FilePart, FileWritten, SourceWritten}
-use Rattle.dumpcap_main.proofs.Steps.{leads_both, leads_as, texts_both, bytes-append, written-append, leads_nothing, wrote_both, wrote_as, front_both, front_more}
+use Rattle.dumpcap_main.specs.Capture.{SourceFacts, not_opened, whole_of, HowIs, HowOf, DidFront, FilePart, FileWritten, SourceWritten}
+use Rattle.dumpcap_main.proofs.Steps.{leads_both, leads_as, bytes-append, written-append, wrote_both, wrote_as, front_both, front_more}
 
 -- what was read and what is left, together, stays
 pub read_whole : (s0 s1 l0 l1 : Option (List ℕ)) (x : List ℕ) → Grows s0 s1 x → Shrinks l0 l1 x → whole_of s1 l1 ≡ whole_of s0 l0

@@ -1,5 +1,5 @@
 -- What a capture did, by the bytes that its source gave.
-use Rattle.std.specs.Prelude.{ℕ, ◌≡◌, ◌<◌, ◌^◌, List, [], ◌∷◌, ◌++◌, length, Bool, true, false, Option, Some, None}
+use Rattle.std.specs.Prelude.{ℕ, ◌≡◌, ◌<◌, ◌^◌, List, [], ◌++◌, length, Bool, true, false, Option, Some, None}
 use Rattle.cap_base.specs.Events.{Event}
 use Rattle.cap_base.specs.Effects.{Effect, saying}
 use Rattle.cap_base.specs.declared.endings.How.{How}
