@@ -78,14 +78,14 @@ fi
 
 if has text2pcap; then
     printf '000000 ff ff ff ff ff ff 02 00 00 00 00 01 08 06 00 01\n' >"$work/frame.txt"
-    text2pcap -q -F pcap "$work/frame.txt" "$work/text.pcap"
+    text2pcap -q -F pcap "$work/frame.txt" "$work/text.pcap" 2>/dev/null
     through text2pcap "$work/text.pcap" 0
 else
     skip "text2pcap isn't installed"
 fi
 
 if has tshark; then
-    tshark -n -r "$sample" -F pcap -w "$work/tshark.pcap"
+    tshark -n -r "$sample" -F pcap -w "$work/tshark.pcap" 2>/dev/null
     through tshark "$work/tshark.pcap" 0
     # A stream that is cut inside its last packet keeps the packets before it.
     head -c -1 "$sample" >"$work/cut.pcap"
