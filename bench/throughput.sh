@@ -30,10 +30,18 @@ run() { # run NAME COMMAND..: the best of three
     for _ in 1 2 3; do
         rm -f "$work/out"
         line=$(cat "$work/in.pcap" | python3 -c '
-import resource, subprocess, sys, time
+import subprocess, sys, time
 started = time.monotonic()
-status = subprocess.run(sys.argv[1:], stderr=subprocess.DEVNULL).returncode
-print(time.monotonic() - started, resource.getrusage(resource.RUSAGE_CHILDREN).ru_maxrss, status)' "$@")
+child = subprocess.Popen(sys.argv[1:], stderr=subprocess.DEVNULL)
+most = 0
+while child.poll() is None:
+    try:
+        with open(f"/proc/{child.pid}/status") as status:
+            most = max([most] + [int(line.split()[1]) for line in status if line.startswith("VmHWM")])
+    except (OSError, IndexError):
+        pass
+    time.sleep(0.005)
+print(time.monotonic() - started, most, child.returncode)' "$@")
         best=$(printf '%s\n%s\n' "$best" "$line" | grep . | sort -n | head -n 1)
     done
     read -r seconds memory status <<<"$best"
