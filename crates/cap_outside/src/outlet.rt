@@ -246,13 +246,14 @@ pub struct MemOutlet {
 impl MemOutlet {
     ghost use Rattle.cap_base.specs.Effects.{effects};
     ghost use Rattle.cap_outside.specs.Files.{file_in, said_text};
-    ghost use Rattle.cap_outside.specs.MemOutlet.{done_of, has_current};
+    ghost use Rattle.cap_outside.specs.MemOutlet.{done_of, has_current, fails_of};
 
     /// An outlet that did nothing yet, whose calls at these places fail, counted from 0 over all its calls of
     /// [`Outlet`].
     pub fn new(alloc: Global, fails: Vec<u64>) -> MemOutlet
         ensures done { done_of result ≡ [] }
         ensures no_file { has_current result ≡ false }
+        ensures fails { fails_of result ≡ fails.items }
     {
         MemOutlet {
             outlet: SureOutlet::new(alloc),
