@@ -34,9 +34,9 @@ facts() {
         tshark -n -r "$1" -x
 }
 
-through() { # through NAME FILE WANTED_STATUS
+through() { # through NAME FILE WANTED_STATUS WORDS..: captures FILE, with further words
     local out=$work/$1.pcapng status
-    "$top/dumpcap" -i - -w "$out" <"$2" 2>"$work/$1.report"
+    "$top/dumpcap" -i - -w "$out" "${@:4}" <"$2" 2>"$work/$1.report"
     status=$?
     if [ "$status" != "$3" ]; then
         verdict "$1" 1 "exit $status, wanted $3"
@@ -50,13 +50,38 @@ through() { # through NAME FILE WANTED_STATUS
         skip "$1: tshark isn't installed, so its packets are not compared"
         return
     fi
-    facts "$2" >"$work/$1.want" 2>/dev/null
+    facts "${wanted:-$2}" >"$work/$1.want" 2>/dev/null
     facts "$out" >"$work/$1.have" 2>/dev/null
     cmp -s "$work/$1.want" "$work/$1.have"
     verdict "$1" $? "the packets differ"
 }
 
 through sample "$sample" 0
+
+# The bytes of the file, by the formats alone: through a file, through standard output, and from a FIFO.
+exact() { # exact NAME SOURCE_NAME IN OUT
+    python3 "$top/interop/expected.py" "$2" "$3" "$4" 2>"$work/$1.why"
+    verdict "$1" $? "$(cat "$work/$1.why")"
+}
+if has python3; then
+    exact bytes - "$sample" "$work/sample.pcapng"
+    "$top/dumpcap" -i - -w - <"$sample" >"$work/stdout.pcapng" 2>/dev/null
+    exact standard-output - "$sample" "$work/stdout.pcapng"
+    mkfifo "$work/fifo"
+    cat "$sample" >"$work/fifo" &
+    "$top/dumpcap" -i "$work/fifo" -w "$work/fifo.pcapng" 2>/dev/null
+    exact fifo "$work/fifo" "$sample" "$work/fifo.pcapng"
+else
+    skip "python3 isn't installed, so the bytes are not compared"
+fi
+
+# What check says of a whole file, and of one without its last byte.
+"$top/dumpcap" check "$work/sample.pcapng" >"$work/check.out" 2>&1 && grep -q '^interfaces 1$' "$work/check.out"
+verdict check $? "$(cat "$work/check.out")"
+head -c -1 "$work/sample.pcapng" >"$work/torn.pcapng"
+"$top/dumpcap" check "$work/torn.pcapng" >"$work/torn.out" 2>&1
+[ $? = 7 ] && grep -q '^fault short at [0-9]*$' "$work/torn.out"
+verdict check-torn $? "$(cat "$work/torn.out")"
 
 if has tcpdump; then
     tcpdump -n -r "$sample" -w - 2>/dev/null >"$work/tcpdump.pcap"
@@ -97,6 +122,72 @@ if has tshark; then
 else
     skip "tshark isn't installed"
 fi
+
+# pcapng of either byte order.
+if has editcap; then
+    editcap -F pcapng "$sample" "$work/little.pcapng"
+    through pcapng "$work/little.pcapng" 0
+    editcap -F pcapng -s 40 "$sample" "$work/little-snap.pcapng"
+    through pcapng-snap "$work/little-snap.pcapng" 0
+    # Bodies that the program itself cuts are those that editcap cuts.
+    wanted=$work/snap.pcap through snap-length "$sample" 0 -s 40
+    wanted=$work/little-snap.pcapng through pcapng-snap-length "$work/little.pcapng" 0 -s 40
+else
+    skip "editcap isn't installed"
+fi
+if has python3; then
+    python3 "$top/interop/big_endian.py" "$sample" >"$work/big.pcapng"
+    wanted=$sample through pcapng-big-endian "$work/big.pcapng" 0
+fi
+
+# Two sources at once, a classic one and one in pcapng: all packets of both, each under the name of its source.
+sources() {
+    local count names
+    mkfifo "$work/a" "$work/b"
+    cat "$sample" >"$work/a" &
+    cat "$work/little.pcapng" >"$work/b" &
+    "$top/dumpcap" -i "$work/a" -i "$work/b" -w "$work/both.pcapng" 2>"$work/both.report" || return 1
+    capinfos -Mc "$work/both.pcapng" >/dev/null 2>&1 || return 1
+    count=$(tshark -n -r "$work/both.pcapng" 2>/dev/null | wc -l)
+    names=$(tshark -n -r "$work/both.pcapng" -T fields -e frame.interface_name 2>/dev/null | sort | uniq -c | awk '{ print $1 }' | xargs)
+    [ "$count" = 12 ] && [ "$names" = "6 6" ]
+}
+
+# A ring: each file opens, and together they have the packets that are kept.
+ring() { # ring NAME WANTED_FILES WANTED_PACKETS WORDS..
+    local file packets=0 files=0
+    mkdir "$work/$1"
+    "$top/dumpcap" -i - -w "$work/$1/o.pcapng" "${@:4}" <"$sample" 2>"$work/$1.report" || return 1
+    for file in "$work/$1"/o_*.pcapng; do
+        capinfos -Mc "$file" >/dev/null 2>&1 || return 1
+        "$top/dumpcap" check "$file" >/dev/null 2>&1 || return 1
+        packets=$((packets + $(tshark -n -r "$file" 2>/dev/null | wc -l)))
+        files=$((files + 1))
+    done
+    [ "$files" = "$2" ] && [ "$packets" = "$3" ]
+}
+
+if has tshark && has capinfos && has editcap; then
+    sources
+    verdict two-sources $? "$(cat "$work/both.report")"
+    # The sample has six packets: a file that is full at its second one is followed by another.
+    ring files 4 6 -b packets:2
+    verdict files $? "$(ls "$work/files" 2>&1)"
+    ring ring 2 2 -b packets:2 -b files:2
+    verdict ring $? "$(ls "$work/ring" 2>&1)"
+    "$top/dumpcap" -i - -w "$work/first.pcapng" -c 3 <"$sample" 2>/dev/null
+    [ "$(tshark -n -r "$work/first.pcapng" 2>/dev/null | wc -l)" = 3 ]
+    verdict first-packets $? "not three packets"
+else
+    skip "tshark, capinfos or editcap isn't installed"
+fi
+
+# Messages, and a follower of them.
+"$top/dumpcap" -i - -w "$work/told.pcapng" --sync <"$sample" 2>"$work/messages"
+"$top/dumpcap" follow "$work/messages" >"$work/lines" 2>&1
+status=$?
+[ "$status" = 0 ] && [ "$(grep -c '^packet ' "$work/lines")" = 6 ] && grep -q "^file $work/told.pcapng\$" "$work/lines"
+verdict follow $? "exit $status: $(tail -n 1 "$work/lines")"
 
 echo "$passed passed, $failed failed, $skipped skipped"
 [ "$failed" = 0 ]

@@ -1,12 +1,9 @@
 ghost use Rattle.std.specs.Prelude.{◌≡◌, ◌<◌, ◌^◌, [], ◌∷◌, ◌++◌, length, IfOk, OnOk, OnErr, IsOk, ◌↔◌};
 ghost use Rattle.drop_counters.specs.Tally.{counts_at, update, no_counts, one_received, one_dropped, one_flushed, one_written, one_unwritten};
 
-use cap_base::{CountList, Counts, Full, NoMemory};
+use cap_base::{CountList, Counts, Full, MAX_INTERFACES, NoMemory};
 use std::alloc::Global;
 use std::marker::Model;
-
-/// The most interfaces that are counted.
-const INTERFACES: usize = 256;
 
 /// The counts of a capture by interface number, of at most 256 interfaces. In a contract it is the list of them.
 #[derive(Debug, Drop)]
@@ -17,12 +14,13 @@ pub struct Tally {
 impl Model for Tally {
     ghost use Rattle.std.specs.Prelude.{List, ◌≤◌, vec_capacity, length};
     ghost use Rattle.cap_base.specs.declared.counts.Counts.{Counts};
+    ghost use Rattle.cap_base.specs.declared.limits.TheConstants.{MAX_INTERFACES};
 
     ghost Value = { List Counts };
 
     ghost view = { λ t. t.counts.items };
 
-    ghost invariant = { λ t. (256 ≤ vec_capacity t.counts) × (length t.counts.items ≤ 256) };
+    ghost invariant = { λ t. (MAX_INTERFACES ≤ vec_capacity t.counts) × (length t.counts.items ≤ MAX_INTERFACES) };
 }
 
 impl Tally {
@@ -30,17 +28,17 @@ impl Tally {
     pub fn new(alloc: Global) -> Result<Tally, NoMemory>
         ensures { IfOk result (λ t. t ≡ []) }
     {
-        let counts = Vec::with_capacity(alloc, INTERFACES)?;
+        let counts = Vec::with_capacity(alloc, MAX_INTERFACES)?;
         Ok(Tally { counts })
     }
 
     /// Counts one interface more, under the next number; `Full` exactly at 256, and then nothing changes.
     pub fn add_interface(&mut self) -> Result<(), Full>
-        ensures variant { IsOk result ↔ (length self.old < 256) }
+        ensures variant { IsOk result ↔ (length self.old < MAX_INTERFACES) }
         ensures ok { OnOk result (self.new ≡ self.old ++ no_counts ∷ []) }
         ensures err { OnErr result (self.new ≡ self.old) }
     {
-        if self.counts.len() >= INTERFACES {
+        if self.counts.len() >= MAX_INTERFACES {
             return Err(Full);
         }
         let none = Counts {

@@ -1,11 +1,8 @@
 ghost use Rattle.std.specs.Prelude.{◌≡◌, ◌<◌, ◌≤◌, [], ◌∷◌, ◌++◌, length, slice_get, IfOk, OnErr, IsOk, IsNone, None, ◌↔◌};
 
-use cap_base::{Full, NoMemory};
+use cap_base::{Full, MAX_INTERFACES, NoMemory};
 use std::alloc::Global;
 use std::marker::Model;
-
-/// The most interfaces that an output numbers.
-const INTERFACES: usize = 256;
 
 /// The sources of the numbered interfaces, at most 256. In a contract it is the list of these sources, by number.
 #[derive(Debug, Drop)]
@@ -15,12 +12,13 @@ pub struct Map {
 
 impl Model for Map {
     ghost use Rattle.std.specs.Prelude.{List, ℕ, ◌≤◌, vec_capacity, length};
+    ghost use Rattle.cap_base.specs.declared.limits.TheConstants.{MAX_INTERFACES};
 
     ghost Value = { List ℕ };
 
     ghost view = { λ m. m.owners.items };
 
-    ghost invariant = { λ m. (256 ≤ vec_capacity m.owners) × (length m.owners.items ≤ 256) };
+    ghost invariant = { λ m. (MAX_INTERFACES ≤ vec_capacity m.owners) × (length m.owners.items ≤ MAX_INTERFACES) };
 }
 
 impl Map {
@@ -28,21 +26,21 @@ impl Map {
     pub fn new(alloc: Global) -> Result<Map, NoMemory>
         ensures { IfOk result (λ m. m ≡ []) }
     {
-        let owners = Vec::with_capacity(alloc, INTERFACES)?;
+        let owners = Vec::with_capacity(alloc, MAX_INTERFACES)?;
         Ok(Map { owners })
     }
 
     /// Numbers an interface of a source: the number is how many were numbered before. `Full` exactly at 256, and then
     /// nothing changes.
     pub fn add(&mut self, source: u8) -> Result<u16, Full>
-        ensures variant { IsOk result ↔ (length self.old < 256) }
+        ensures variant { IsOk result ↔ (length self.old < MAX_INTERFACES) }
         ensures number { IfOk result (λ n. n ≡ length self.old) }
         ensures fresh { IfOk result (λ n. slice_get self.old n ≡ None) }
         ensures added { IfOk result (λ n. self.new ≡ self.old ++ source ∷ []) }
         ensures err { OnErr result (self.new ≡ self.old) }
     {
         let number = self.owners.len();
-        if number >= INTERFACES {
+        if number >= MAX_INTERFACES {
             return Err(Full);
         }
         let Ok(()) = self.owners.push(source) else {

@@ -1,11 +1,8 @@
 ghost use Rattle.std.specs.Prelude.{◌≡◌, ◌<◌, ◌≤◌, [], ◌∷◌, ◌++◌, length, slice_get, IfOk, OnOk, OnErr, IsOk, IsNone, ◌↔◌};
 
-use cap_base::{Full, NoMemory};
+use cap_base::{Full, MAX_INTERFACES, NoMemory};
 use std::alloc::Global;
 use std::marker::Model;
-
-/// The most interfaces of one source that are numbered.
-const INTERFACES: usize = 256;
 
 /// The output numbers of one source's interfaces, at most 256. In a contract it is the list of these numbers, by the
 /// source's own number.
@@ -16,12 +13,13 @@ pub struct Numbers {
 
 impl Model for Numbers {
     ghost use Rattle.std.specs.Prelude.{List, ℕ, ◌≤◌, vec_capacity, length};
+    ghost use Rattle.cap_base.specs.declared.limits.TheConstants.{MAX_INTERFACES};
 
     ghost Value = { List ℕ };
 
     ghost view = { λ m. m.numbers.items };
 
-    ghost invariant = { λ m. (256 ≤ vec_capacity m.numbers) × (length m.numbers.items ≤ 256) };
+    ghost invariant = { λ m. (MAX_INTERFACES ≤ vec_capacity m.numbers) × (length m.numbers.items ≤ MAX_INTERFACES) };
 }
 
 impl Numbers {
@@ -29,17 +27,17 @@ impl Numbers {
     pub fn new(alloc: Global) -> Result<Numbers, NoMemory>
         ensures { IfOk result (λ m. m ≡ []) }
     {
-        let numbers = Vec::with_capacity(alloc, INTERFACES)?;
+        let numbers = Vec::with_capacity(alloc, MAX_INTERFACES)?;
         Ok(Numbers { numbers })
     }
 
     /// Puts the output number of the source's next interface. `Full` exactly at 256, and then nothing changes.
     pub fn put(&mut self, number: u16) -> Result<(), Full>
-        ensures variant { IsOk result ↔ (length self.old < 256) }
+        ensures variant { IsOk result ↔ (length self.old < MAX_INTERFACES) }
         ensures ok { OnOk result (self.new ≡ self.old ++ number ∷ []) }
         ensures err { OnErr result (self.new ≡ self.old) }
     {
-        if self.numbers.len() >= INTERFACES {
+        if self.numbers.len() >= MAX_INTERFACES {
             return Err(Full);
         }
         let Ok(()) = self.numbers.push(number) else {

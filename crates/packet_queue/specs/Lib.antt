@@ -1,5 +1,6 @@
 pub mod Queue
+pub mod Batches
 pub mod Calls
-pub mod Changes
 pub mod Ends
-pub mod Writer
+pub mod Fit
+pub mod inner

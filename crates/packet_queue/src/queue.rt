@@ -1,33 +1,25 @@
 ghost use Rattle.std.specs.Prelude.{◌≡◌, ◌≤◌, [], IfOk};
-ghost use Rattle.packet_queue.specs.Queue.{StandsFor, limits_of, sources_of};
+ghost use Rattle.packet_queue.specs.Queue.{QueueStandsFor, limits_of, sources_of};
 
 use crate::calls::{Call, Reply};
 use crate::ended::Ended;
-use cap_base::{Entry, Item, Limits, NoMemory};
+use cap_base::{
+    Entry, Item, Limits, MAX_INTERFACES, MAX_LOST_PACKETS, MAX_SOURCES, MAX_STANDING_PACKETS,
+    NoMemory,
+};
 use circular_buffer::HeapCircularBuffer;
 use drop_counters::Tally;
 use interface_map::Map;
 use std::alloc::Global;
 use turn_cell::TurnObject;
 
-/// The most packets that stand in the queue.
-const STANDING_PACKETS: usize = 16384;
-
-/// The most interfaces that an output numbers.
-const INTERFACES: usize = 256;
-
-/// The most sources of a capture.
-const SOURCES: usize = 64;
-
 /// The most items that are due: packets, interfaces, and the first ending of each source.
-const LINE_CAPACITY: usize = STANDING_PACKETS + INTERFACES + SOURCES;
-
-/// The most packets that one stop loses.
-const LOST_PACKETS: usize = 4096;
+const LINE_CAPACITY: usize = MAX_STANDING_PACKETS + MAX_INTERFACES + MAX_SOURCES;
 
 /// The queue of a capture: what sources have given and the writer has not yet taken.
 ///
-/// It is used through turns, by `Port` and `Drain`. A turn moves no item but its own.
+/// It is used through turns, by `Port` and `Drain`. Each turn but a stop moves no item but its own; the first stop goes
+/// over all that is due.
 #[derive(Drop)]
 pub struct Queue {
     pub(crate) limits: Limits,
@@ -53,12 +45,13 @@ impl Queue {
     /// The queue of so many sources, with nothing in it. All memory is taken here.
     ///
     /// There are 1 to 64 sources, and 1 to 16,384 packets may stand.
+    #[tactic(auto, unfolding(crate::specs::Queue::limits_of, crate::specs::Queue::sources_of))]
     pub fn new(alloc: Global, limits: Limits, sources: u8) -> Result<Queue, NoMemory>
-        requires limits { (1 ≤ limits.packets) × (limits.packets ≤ 16384) }
-        requires sources { (1 ≤ sources) × (sources ≤ 64) }
+        requires limits { (1 ≤ limits.packets) × (limits.packets ≤ MAX_STANDING_PACKETS) }
+        requires sources { (1 ≤ sources) × (sources ≤ MAX_SOURCES) }
         ensures limits { IfOk result (λ q. limits_of q ≡ limits) }
         ensures sources { IfOk result (λ q. sources_of q ≡ sources) }
-        ensures stands { IfOk result (λ q. StandsFor q q []) }
+        ensures stands { IfOk result (λ q. QueueStandsFor q q []) }
     {
         Ok(Queue {
             limits,
@@ -70,13 +63,13 @@ impl Queue {
             ended: Ended::new(alloc, sources)?,
             stopped: false,
             tally: Tally::new(alloc)?,
-            last_taken: HeapCircularBuffer::with_capacity(alloc, LOST_PACKETS)?,
+            last_taken: HeapCircularBuffer::with_capacity(alloc, MAX_LOST_PACKETS)?,
         })
     }
 }
 
 impl TurnObject for Queue {
-    ghost use Rattle.packet_queue.specs.Queue.{StandsFor};
+    ghost use Rattle.packet_queue.specs.Queue.{QueueStandsFor};
     ghost use Rattle.packet_queue.specs.Calls.{entries_of, Admits, IsReplyTo};
 
     type Call = Call;
@@ -87,7 +80,7 @@ impl TurnObject for Queue {
 
     ghost entries = { entries_of };
 
-    ghost stands_for = { StandsFor };
+    ghost stands_for = { QueueStandsFor };
 
     ghost admits = { Admits };
 
@@ -96,21 +89,18 @@ impl TurnObject for Queue {
     fn step(&mut self, call: Call) -> Reply {
         match call {
             Call::Join { source, iface } => Reply::Joined(self.join(source, iface)),
-            Call::Offer { source, packet } => self.offer(source, packet),
+            Call::Offer { source, packet } => {
+                let (verdict, back) = self.offer(source, packet);
+                Reply::Offered { verdict, back }
+            }
+            Call::Offers { source, batch } => Reply::OfferedAll(self.offer_all(source, batch)),
             Call::End { source, how } => {
                 self.end(source, how);
                 Reply::Ended
             }
-            Call::Take { now } => {
-                let _ = now;
-                Reply::Took(self.take())
-            }
-            Call::Tally { now, room } => {
-                let _ = now;
-                Reply::Told(self.tally.fill(room))
-            }
-            Call::Stop { why, lost } => {
-                let _ = why;
+            Call::Take { now: _ } => Reply::Took(self.take()),
+            Call::Tally { now: _, room } => Reply::Told(self.tally.fill(room)),
+            Call::Stop { why: _, lost } => {
                 self.stop();
                 self.lose(lost);
                 Reply::Stopped

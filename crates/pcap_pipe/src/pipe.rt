@@ -1,4 +1,4 @@
-ghost use Rattle.std.specs.Prelude.{◌≡◌, ◌≤◌, ◌<◌, ◌+◌, ◌-◌, ◌^◌, ◌↔◌, [], min, length, take, drop, IfOk, OnErr, IsTrue};
+ghost use Rattle.std.specs.Prelude.{ℕ, ◌≡◌, ◌≤◌, ◌+◌, ◌^◌, ◌↔◌, Ok, [], length, take, IfOk, OnErr};
 ghost use Rattle.pcap_pipe.specs.Classic.{interface_of, packet_of};
 
 use crate::form::Form;
@@ -8,38 +8,34 @@ use crate::layout::{
     SNAP_LEN_AT,
 };
 use crate::stage::Stage;
-use cap_base::{Code, How, Iface, Name, NoMemory, Notes, Octets, Packet, Step, get_u32};
+use cap_base::{
+    Code, How, Iface, Name, NoMemory, Notes, Octets, Packet, Spares, Step, bytes_from, get_u32,
+};
+use input_buffer::InputBuffer;
 use std::alloc::Global;
 use std::marker::Model;
-
-/// The most bytes that a pipe keeps: 16 MiB and 64 KiB.
-pub const MOST_KEPT: usize = 16_842_752;
+use std::mem;
 
 /// A reader of classic pcap, which is fed the text in pieces of any length.
 ///
 /// In a contract it is its name, where it stands in the text, and the bytes that it keeps: those that were fed and not
-/// read yet. `StandsFor` ties it to all bytes fed and all events given, so no contract speaks of the pieces.
+/// read yet. `StandsFor` ties it to all bytes fed and all events given, so no contract speaks of the pieces. The memory
+/// that it has for the next bodies is no part of that.
 #[derive(Drop)]
 pub struct PcapPipe {
     alloc: Global,
     name: Octets,
     stage: Stage,
-    /// The place of the first kept byte, in all bytes fed.
-    place: u64,
-    /// The kept bytes are those from `start` on.
-    buffer: Vec<u8>,
-    start: usize,
+    input: InputBuffer,
+    spares: Spares,
 }
 
 impl Model for PcapPipe {
-    ghost use Rattle.std.specs.Prelude.{◌≤◌, ◌+◌, ◌^◌, drop, length};
     ghost use Rattle.pcap_pipe.specs.Pipe.{Pipe};
 
     ghost Value = { Pipe };
 
-    ghost view = { λ p. record { name = p.name; stage = p.stage; place = p.place; kept = drop p.start p.buffer.items } };
-
-    ghost invariant = { λ p. (p.start ≤ length p.buffer.items) × (p.place + length (drop p.start p.buffer.items) ≤ 2 ^ 62) };
+    ghost view = { λ p. record { name = p.name; stage = p.stage; place = p.input.place; kept = p.input.kept } };
 }
 
 /// The interface of a file header.
@@ -63,7 +59,12 @@ fn interface_at(alloc: Global, name: &Octets, form: Form, text: &[u8]) -> Result
 
 /// The packet of a packet record.
 #[tactic(auto, unfolding(crate::specs::Classic::packet_of))]
-fn packet_at(alloc: Global, form: Form, text: &[u8]) -> Result<Packet, NoMemory>
+fn packet_at(
+    alloc: Global,
+    spares: &mut Spares,
+    form: Form,
+    text: &[u8],
+) -> Result<Packet, NoMemory>
     requires { 16 ≤ length text.now }
     ensures value { IfOk result (λ p. p ≡ packet_of form text.now) }
     ensures notes { IfOk result (λ p. p.notes ≡ []) }
@@ -71,8 +72,7 @@ fn packet_at(alloc: Global, form: Form, text: &[u8]) -> Result<Packet, NoMemory>
 {
     let seconds = get_u32(form.order, text, SECONDS_AT) as u64;
     let fraction = get_u32(form.order, text, FRACTION_AT) as u64;
-    let mut body = Octets::new(alloc);
-    body.append(&text[RECORD_HEADER_LEN..])?;
+    let body = spares.body_of(alloc, bytes_from(text, RECORD_HEADER_LEN))?;
     Ok(Packet {
         iface: 0,
         time: seconds * form.fraction.per_second() + fraction,
@@ -80,27 +80,6 @@ fn packet_at(alloc: Global, form: Form, text: &[u8]) -> Result<Packet, NoMemory>
         body,
         notes: Notes::new(alloc),
     })
-}
-
-/// Drops the bytes before a place. Where there are none, nothing is moved.
-fn keep_from(buffer: &mut Vec<u8>, start: usize)
-    requires { start ≤ length buffer.old.items }
-    ensures { buffer.new.items ≡ drop start buffer.old.items }
-{
-    if start == 0 {
-        return;
-    }
-    let kept = buffer.len() - start;
-    buffer.copy_within(start.., 0);
-    buffer.truncate(kept);
-}
-
-/// The bytes from a place on.
-fn bytes_from(buffer: &Vec<u8>, start: usize) -> &[u8]
-    requires { start ≤ length buffer.now.items }
-    ensures { result.now ≡ drop start buffer.now.items }
-{
-    &buffer[start..]
 }
 
 /// The first bytes.
@@ -113,7 +92,9 @@ fn front_bytes(text: &[u8], len: usize) -> &[u8]
 }
 
 impl PcapPipe {
-    ghost use Rattle.pcap_pipe.specs.Pipe.{Pipe, StandsFor, IsDrained, IsWaiting, Feeds, Gives, EndsAs, Steps, IsLawful, Passes, Breaks, fresh, room_for, with_kept, fed_count, ending_of_rest, IsEnd};
+    ghost use Rattle.pcap_pipe.specs.Pipe.{StandsFor, IsDrained, IsWaiting, Feeds, EndsAs, Steps, IsLawful, fresh, room_for, with_kept, fed_count, ending_of_rest};
+    ghost use Rattle.pcap_pipe.specs.inner.Moves.{Passes, Breaks};
+    ghost use Rattle.cap_base.specs.Endings.{IsEnd};
 
     /// A pipe that was fed nothing. Its interface will have the name.
     pub fn new(alloc: Global, name: Name) -> Result<PcapPipe, NoMemory>
@@ -127,9 +108,8 @@ impl PcapPipe {
             alloc,
             name: bytes,
             stage: Stage::Header,
-            place: 0,
-            buffer: Vec::new(alloc),
-            start: 0,
+            input: InputBuffer::new(alloc),
+            spares: Spares::new(alloc)?,
         })
     }
 
@@ -145,20 +125,7 @@ impl PcapPipe {
         if let Stage::Broken(_) = self.stage {
             return Ok(0);
         }
-        keep_from(&mut self.buffer, self.start);
-        self.start = 0;
-        let room = MOST_KEPT.saturating_sub(self.buffer.len());
-        let count = piece.len().min(room);
-        self.buffer.extend_from_slice(&piece[..count])?;
-        Ok(count)
-    }
-
-    /// The bytes that were fed and not read yet.
-    fn kept(&self) -> &[u8]
-        ensures value { result.now ≡ self.now.kept }
-        ensures bound { self.now.place + length result.now ≤ 2 ^ 62 }
-    {
-        bytes_from(&self.buffer, self.start)
+        self.input.feed(piece)
     }
 
     /// Reads on behind the first of the kept bytes.
@@ -166,8 +133,7 @@ impl PcapPipe {
         requires { len ≤ length self.old.kept }
         ensures { Passes len next self.old self.new }
     {
-        self.start += len;
-        self.place += len as u64;
+        self.input.pass(len);
         self.stage = next;
     }
 
@@ -179,7 +145,7 @@ impl PcapPipe {
         self.stage = Stage::Broken(code);
         Step::Bad {
             code,
-            at: self.place,
+            at: self.input.place(),
         }
     }
 
@@ -192,7 +158,7 @@ impl PcapPipe {
         ensures name { self.new.name ≡ self.old.name }
         ensures err { OnErr result (self.new ≡ self.old) }
     {
-        let text = self.kept();
+        let text = self.input.kept();
         match header_front_of(text) {
             Front::Ended | Front::Cut => Ok(Step::More),
             Front::Wrong(code) => Ok(self.refuse(code)),
@@ -213,12 +179,12 @@ impl PcapPipe {
         ensures name { self.new.name ≡ self.old.name }
         ensures err { OnErr result (self.new ≡ self.old) }
     {
-        let text = self.kept();
+        let text = self.input.kept();
         match record_front_of(form, text) {
             Front::Ended | Front::Cut => Ok(Step::More),
             Front::Wrong(code) => Ok(self.refuse(code)),
             Front::Whole(_, len) => {
-                let packet = packet_at(self.alloc, form, front_bytes(text, len))?;
+                let packet = packet_at(self.alloc, &mut self.spares, form, front_bytes(text, len))?;
                 self.pass(len, Stage::Records(form));
                 Ok(Step::Packet(packet))
             }
@@ -233,7 +199,7 @@ impl PcapPipe {
         ensures step { IfOk result (λ step. Steps self.old self.new step) }
         ensures lawful { IfOk result (λ step. IsLawful self.old self.new step) }
         ensures more { IfOk result (λ step. (step ≡ Step.More) ↔ IsWaiting self.old) }
-        ensures again { (code : Code) → self.old.stage ≡ Stage.Broken code → (self.new ≡ self.old) × (result ≡ Ok (Step.Bad code self.old.place)) }
+        ensures again { (code : Code) (at : ℕ) → ending_of_rest self.old ≡ How.Bad code at → (self.new ≡ self.old) × (result ≡ Ok (Step.Bad code at)) }
         ensures same { fed_count self.new ≡ fed_count self.old }
         ensures name { self.new.name ≡ self.old.name }
         ensures err { OnErr result (self.new ≡ self.old) }
@@ -243,16 +209,28 @@ impl PcapPipe {
             Stage::Records(form) => self.next_record(form),
             Stage::Broken(code) => Ok(Step::Bad {
                 code,
-                at: self.place,
+                at: self.input.place(),
             }),
         }
+    }
+
+    /// Whether no spare body is left, so that the next packet's body is allocated.
+    pub fn wants_spares(&self) -> bool {
+        self.spares.len() == 0
+    }
+
+    /// Takes emptied bodies, in whose memory the next packets' bodies are made, and answers those that it had.
+    pub fn refill(&mut self, spares: Spares) -> Spares
+        ensures { self.new ≡ self.old }
+    {
+        mem::replace(&mut self.spares, spares)
     }
 
     /// How many bytes were fed.
     pub fn fed(&self) -> u64
         ensures { result ≡ fed_count self.now }
     {
-        self.place + self.kept().len() as u64
+        self.input.fed()
     }
 
     /// How the kept bytes end, where they hold no event.
@@ -260,12 +238,12 @@ impl PcapPipe {
         ensures end { IsEnd result }
         ensures how { result ≡ ending_of_rest self.now }
     {
-        let at = self.place;
+        let at = self.input.place();
         match self.stage {
             Stage::Broken(code) => How::Bad { code, at },
             Stage::Header => How::Cut { at },
             Stage::Records(_) => {
-                if self.kept().is_empty() {
+                if self.input.kept().is_empty() {
                     How::Clean
                 } else {
                     How::Cut { at }

@@ -1,11 +1,12 @@
 -- What is heard of a text only grows with it.
-use Rattle.std.proofs.Common.{◌≡◌, ℕ, zero, suc, ◌+◌, ◌-◌, ◌<◌, ◌≤◌, List, [], ◌∷◌, ◌++◌, length, take, drop, get_or, Option, Some, None, refl, sym, ap, ◌∙◌, arith}
+use Rattle.std.proofs.Common.{◌≡◌, ℕ, zero, suc, ◌+◌, ◌<◌, ◌≤◌, List, [], ◌∷◌, ◌++◌, length, take, drop, get_or, Option, Some, None, refl, sym, ap, arith}
 use Rattle.std.proofs.lemmas.List.{length-drop, append-nil}
 use Rattle.sync_pipe.specs.declared.said.Said.{Said}
 use Rattle.sync_pipe.specs.declared.frame.Frame.{Frame}
 use Rattle.sync_pipe.specs.declared.frame.Frame.TheVariants.{Cut, TooLong, Known, Unknown}
 use Rattle.sync_pipe.specs.Bodies.{said_of}
-use Rattle.sync_pipe.specs.Heard.{frame, Hearing, with_said, said_then, heard_at}
+use Rattle.cap_base.specs.Feeding.{with_front}
+use Rattle.sync_pipe.specs.Heard.{frame, Hearing, said_then, heard_at}
 use Rattle.sync_pipe.proofs.Frames.{frame_within}
 use Rattle.sync_pipe.proofs.Hearings.{heard_step, heard_too_long, heard_unknown, heard_known}
 
@@ -24,8 +25,8 @@ none_grows h = record { further = h.0; longer = refl; stays = λ at e. absurd (n
     none_some : (at : ℕ) → None ≡ Some at → ⊥
     none_some at e = cc
 
-said_grows : (said : Said) (long short : Hearing) → Grows long short → Grows (with_said (said ∷ []) long) (with_said (said ∷ []) short)
-said_grows said long short g = record { further = g.further; longer = ap (λ l. said ∷ l) g.longer; stays = λ at e. ap (with_said (said ∷ [])) (g.stays at e) }
+said_grows : (said : Said) (long short : Hearing) → Grows long short → Grows (with_front (said ∷ []) long) (with_front (said ∷ []) short)
+said_grows said long short g = record { further = g.further; longer = ap (λ l. said ∷ l) g.longer; stays = λ at e. ap (with_front (said ∷ [])) (g.stays at e) }
 
 then_grows : (o : Option Said) (at : ℕ) (long short : Hearing) → Grows long short → Grows (said_then o at long) (said_then o at short)
 then_grows None at long short g = same_grows ([], Some at)

@@ -5,8 +5,9 @@ use Rattle.sync_pipe.specs.declared.said.Said.{Said}
 use Rattle.sync_pipe.specs.declared.frame.Frame.{Frame}
 use Rattle.sync_pipe.specs.declared.frame.Frame.TheVariants.{Cut, TooLong, Known, Unknown}
 use Rattle.sync_pipe.specs.Bodies.{said_of}
-use Rattle.sync_pipe.specs.Heard.{frame, with_said, said_then, decided, heard_from, heard_at}
-use Rattle.sync_pipe.specs.Finding.{Passes}
+use Rattle.cap_base.specs.Feeding.{with_front}
+use Rattle.sync_pipe.specs.Heard.{frame, said_then, decided, heard_from, heard_at}
+use Rattle.sync_pipe.specs.inner.Finding.{Passes}
 use Rattle.sync_pipe.proofs.Frames.{frame_within, frame-append}
 
 -- the count of steps doesn't matter where it is above the length
@@ -85,7 +86,7 @@ passes_more text n k within passes is = record {
 
 -- the first message that says something
 pub found_said : (text rest : List ℕ) (n k : ℕ) (said : Said) → n ≤ length text → Passes text n → rest ≡ drop n text → frame rest ≡ Known k → said_of (get_or rest 0 0) (take k (drop 4 rest)) ≡ Some said
-    → (n + 4 + k ≤ length text) × ((at : ℕ) (more : List ℕ) → heard_at at (text ++ more) ≡ with_said (said ∷ []) (heard_at (at + (n + 4 + k)) (drop (n + 4 + k) text ++ more)))
+    → (n + 4 + k ≤ length text) × ((at : ℕ) (more : List ℕ) → heard_at at (text ++ more) ≡ with_front (said ∷ []) (heard_at (at + (n + 4 + k)) (drop (n + 4 + k) text ++ more)))
 found_said text rest n k said within passes rest-is is says =
     let whole : 4 + k ≤ length rest = (frame_within rest (Known k) is).0 in
     let count : length rest ≡ length text - n = ap length rest-is ∙ length-drop n text in
@@ -94,8 +95,8 @@ found_said text rest n k said within passes rest-is is says =
       λ at more.
           passes.goes at more ∙ ap (λ r. heard_at (at + n) (r ++ more)) (sym rest-is) ∙ heard_known rest k is (at + n) more
           ∙ ap (λ o. said_then o (at + n) (heard_at (at + n + (4 + k)) (drop (4 + k) rest ++ more))) says
-          ∙ ap (λ r. with_said (said ∷ []) (heard_at (at + n + (4 + k)) (r ++ more))) behind
-          ∙ ap (λ place. with_said (said ∷ []) (heard_at place (drop (n + 4 + k) text ++ more))) (omega arith),
+          ∙ ap (λ r. with_front (said ∷ []) (heard_at (at + n + (4 + k)) (r ++ more))) behind
+          ∙ ap (λ place. with_front (said ∷ []) (heard_at place (drop (n + 4 + k) text ++ more))) (omega arith),
     )
 
 -- a body with a defect

@@ -3,8 +3,10 @@ use Rattle.std.specs.Prelude.{◌≡◌, ℕ, ◌+◌, ◌-◌, ◌≤◌, min, 
 use Rattle.sync_pipe.specs.declared.said.Said.{Said}
 use Rattle.sync_pipe.specs.declared.reader.Heard.{Heard}
 use Rattle.sync_pipe.specs.declared.reader.Heard.TheVariants as answer
-use Rattle.sync_pipe.specs.declared.frame.Frame.TheVariants.{Cut}
-use Rattle.sync_pipe.specs.Heard.{Hearing, with_said, heard, heard_at, frame}
+use Rattle.cap_base.specs.Feeding as feeding
+use Rattle.cap_base.specs.Feeding.{Position}
+use Rattle.sync_pipe.specs.Heard.{Hearing, heard, heard_at}
+use Rattle.sync_pipe.specs.Messages.{IsCut}
 
 -- what is seen of a reader: the place of the kept bytes among all bytes fed, whether the message there has a defect, and
 -- the kept bytes
@@ -21,28 +23,30 @@ continues reader text = if reader.broken then ([], Some reader.place) else heard
 abbrev pub fed_count : Reader → ℕ
 fed_count reader = reader.place + length reader.kept
 
--- The reader was fed these bytes and gave these messages: whatever comes, the messages given and those that it is going
--- to give are the messages of all bytes, and so is the defect.
-pub record StandsFor (reader : Reader) (fed : List ℕ) (given : List Said) : Type 0 where
-  pub count : length fed ≡ fed_count reader
-  pub goes : (more : List ℕ) → heard (fed ++ more) ≡ with_said given (continues reader (reader.kept ++ more))
+-- where the reader stands in the text that it reads
+abbrev pub position : Reader → Position Said (Option ℕ)
+position reader = record { reading = heard; place = reader.place; kept = reader.kept; onward = continues reader }
+
+-- the reader was fed these bytes and gave these messages
+abbrev pub StandsFor : Reader → List ℕ → List Said → Type 0
+StandsFor reader fed given = feeding.StandsFor (position reader) fed given
 
 -- these bytes were fed
 abbrev pub Feeds : Reader → Reader → List ℕ → Type 0
-Feeds old new bytes = (fed : List ℕ) (given : List Said) → StandsFor old fed given → StandsFor new (fed ++ bytes) given
+Feeds old new bytes = feeding.Feeds (position old) (position new) bytes
 
 -- these messages were given
 abbrev pub Gives : Reader → Reader → List Said → Type 0
-Gives old new more = (fed : List ℕ) (given : List Said) → StandsFor old fed given → StandsFor new fed (given ++ more)
+Gives old new more = feeding.Gives (position old) (position new) more
 
 -- all messages of the bytes fed were given, and this is their defect
 abbrev pub EndsAs : Reader → Option ℕ → Type 0
-EndsAs reader defect = (fed : List ℕ) (given : List Said) → StandsFor reader fed given → heard fed ≡ (given, defect)
+EndsAs reader defect = feeding.EndsAs (position reader) (λ d. d ≡ defect)
 
 -- no defect was met, and less than a whole message is kept
 pub record IsDrained (reader : Reader) : Type 0 where
   pub good : reader.broken ≡ false
-  pub cut : frame reader.kept ≡ Cut
+  pub cut : IsCut reader.kept
   pub few : length reader.kept ≤ 65539
 
 -- the message at this place has a defect

@@ -2,8 +2,9 @@
 ghost use Rattle.std.specs.Prelude.{◌≡◌, ◌^◌, ◌<◌, ◌≤◌, [], ◌∷◌, ◌++◌, List, ℕ, suc, true, false, IfOk, IfErr, Some};
 ghost use Rattle.turn_cell.specs.History.{own, tag, Turned};
 ghost use Rattle.turn_cell.specs.declared.view.Stage.TheVariants.{Waiting, Holding};
-ghost use Rattle.turn_cell.specs.Transitions.{HasTurn, after_turn};
-ghost use Rattle.turn_cell.specs.Passes.{start, callers, low, high, seen, made, is_worn, IsPassOf, IsTurn};
+ghost use Rattle.turn_cell.specs.inner.Transitions.{HasTurn, after_turn};
+ghost use Rattle.turn_cell.specs.inner.Fields.{cell_start, cell_callers};
+ghost use Rattle.turn_cell.specs.Passes.{start, low, high, seen, made, is_worn, IsPassOf, IsTurn};
 
 use crate::cell::{Cell, DRAWN, OBJECT, PASSED};
 use crate::object::TurnObject;
@@ -44,7 +45,8 @@ impl<O: TurnObject> Cell<O> {
         unreachable!()
     }
 
-    // Passes the turn on, by which the entries join the history, and wakes those who sleep.
+    // Passes the turn on, by which the entries join the history, and wakes those who sleep. The clauses alone speak of the
+    // ticket and of the object.
     fn pass_on<W: Adds<O::Entry>>(
         &self,
         seat: &mut Seat<O, View<O, O::Entry>>,
@@ -56,8 +58,8 @@ impl<O: TurnObject> Cell<O> {
         requires table { seat.old.table_id ≡ self.now.table.shared.table_id }
         requires entries { W.added ≡ O.entries call.now.value reply.now }
         requires holds { (seat.old.me.0.stage ≡ Holding ticket) × (seat.old.me.0.key ≡ Some self.now.table.shared.key) × (seat.old.me.1 ≡ (0, object.now.value) ∷ []) }
-        requires made { Turned O.entries O.admits (callers self.now) (start self.now) (suc ticket) (seat.old.me.0.seen ++ tag seat.old.me.0.low (O.entries call.now.value reply.now)) }
-        requires stands { O.stands_for (start self.now) object.now.value (seat.old.me.0.seen ++ tag seat.old.me.0.low (O.entries call.now.value reply.now)) }
+        requires made { Turned O.entries O.admits (cell_callers self.now) (cell_start self.now) (suc ticket) (seat.old.me.0.seen ++ tag seat.old.me.0.low (O.entries call.now.value reply.now)) }
+        requires stands { O.stands_for (cell_start self.now) object.now.value (seat.old.me.0.seen ++ tag seat.old.me.0.low (O.entries call.now.value reply.now)) }
         ensures same { (seat.new.table_id ≡ seat.old.table_id) × (seat.new.id ≡ seat.old.id) }
         ensures view { seat.new.me ≡ (after_turn seat.old.me.0 (O.entries call.now.value reply.now), []) }
     {
@@ -73,7 +75,9 @@ impl<O: TurnObject> Cell<O> {
     /// begins with all that the pass had seen before and ends with the entries of this call and its reply.
     ///
     /// `Worn`, with the call, exactly where all turns of the cell were drawn before, at this turn or at an earlier one
-    /// of this pass. Then nothing has changed but that the pass is worn.
+    /// of this pass. Then nothing has changed but that the pass is worn. No clause here tells how many were drawn:
+    /// [`Cell::close`] carries the cause, since of a worn pass it tells that all turns were made.
+    #[tactic(auto, unfolding(crate::specs::Passes::start, crate::specs::Passes::low, crate::specs::Passes::high, crate::specs::Passes::seen, crate::specs::Passes::made, crate::specs::Passes::is_worn, crate::specs::Passes::IsMadeBy))]
     pub fn turn<R: Wait>(
         &self,
         rt: &R,
@@ -84,7 +88,7 @@ impl<O: TurnObject> Cell<O> {
         requires admitted { O.admits (start self.now) (low pass.old) (own (low pass.old) (made pass.old)) call }
         ensures pass { IsPassOf self.now pass.new × (low pass.new ≡ low pass.old) × (high pass.new ≡ high pass.old) }
         ensures turn { IfOk result (λ reply. IsTurn O.stands_for (Turned O.entries O.admits) self.now pass.old pass.new (O.entries call reply)) }
-        ensures reply { IfOk result (λ reply. O.answers call reply) }
+        ensures reply { IfOk result (λ reply. O.answers (seen pass.new) call reply) }
         ensures not_worn { IfOk result (λ reply. (is_worn pass.old ≡ false) × (is_worn pass.new ≡ false)) }
         ensures worn { IfErr result (λ e. (e.1 ≡ call) × (is_worn pass.new ≡ true) × (seen pass.new ≡ seen pass.old) × (made pass.new ≡ made pass.old)) }
     {

@@ -1,0 +1,4 @@
+pub mod Packets
+pub mod Streams
+pub mod Readings
+pub mod Blocks

@@ -1,0 +1,10 @@
+pub mod Replaying
+pub mod Writers
+pub mod Made
+pub mod Fates
+pub mod Views
+pub mod Statistics
+pub mod Laws
+pub mod Headline
+pub mod Example
+pub mod inner

@@ -1,0 +1,90 @@
+//! The capture that the words of a command line ask for.
+ghost use Rattle.std.specs.Prelude.{◌≡◌, ◌<◌, ◌^◌, ◌⊎◌, length, map, [], false, IfSome, IsNone};
+ghost use Rattle.std.specs.List.{count_by};
+ghost use Rattle.cap_base.specs.Lawful.{AreLawful};
+ghost use Rattle.cap_outside.specs.Causes.{Rose};
+ghost use Rattle.turn_cell.specs.Passes.{turns_made};
+ghost use Rattle.source_thread.specs.declared.ended.Ended.{Ended as EndedSource};
+ghost use Rattle.source_thread.specs.Sources.{facts_of};
+ghost use Rattle.capture_run.specs.Command.{CommandIs, RoseBy};
+ghost use Rattle.capture_mode.specs.Outcomes.{IsCaptureExit, IsUnbegun, AreTurnsLeft, HadMemory, is_lost, EachSource, IsContent};
+
+use crate::exits::exit_of;
+use crate::opening::open_sources;
+use crate::outcome::Outcome;
+use cap_base::Settings;
+use cap_outside::{Clock, Opener, Outlet};
+use capture_run::{Captured, capture};
+use std::alloc::Global;
+use std::sync::Wait;
+use std::thread::Threads;
+
+/// What a capture without its first turn comes to.
+fn unbegun<S: Drop>(alloc: Global) -> Outcome<S>
+    ensures exit { result.exit ≡ 5 }
+    ensures sources { result.sources.items ≡ [] }
+    ensures front { IsNone result.front }
+{
+    Outcome {
+        exit: 5,
+        sources: Vec::new(alloc),
+        front: None,
+    }
+}
+
+/// Captures by these settings: opens each source once, in order, and captures from those that could be opened, until the
+/// writer has taken all that they gave. No file may be current. The exit is that of the first of these that holds:
+///
+/// - 3 where a call on a file failed,
+/// - 4 where a message couldn't be said,
+/// - 5 where memory was wanting,
+/// - 6 where the turns were spent,
+/// - 2 where a source couldn't be opened or read, has a defect, is cut, describes one interface more than an output
+///   numbers, or is too long,
+/// - 0 else.
+///
+/// Where memory was wanting before the first turn, no front and no source comes back.
+pub fn run_capture<O: Opener, L: Outlet, C: Clock, R: Threads + Wait + Sync>(
+    rt: &R,
+    alloc: Global,
+    settings: &Settings,
+    opener: &mut O,
+    outlet: &mut L,
+    clock: &mut C,
+) -> Outcome<O::Source>
+    requires settings { AreLawful settings.now }
+    requires no_file { L.has_file outlet.old ≡ false }
+    ensures captured { IfSome result.front (λ f. CommandIs O.opened (O.content opener.old) (facts_of O.Source.taken O.Source.left O.Source.ends O.Source.faults) L.stands_for C.has_read settings.now result.exit result.sources.items f opener.old opener.new outlet.old outlet.new clock.old clock.new
+        (O.faults opener.old) (O.faults opener.new) (L.file_faults outlet.old) (L.file_faults outlet.new) (L.say_faults outlet.old) (L.say_faults outlet.new)) }
+    ensures none { IsNone result.front → IsUnbegun O.opened settings.now.sources result.exit result.sources.items opener.old opener.new outlet.old outlet.new clock.old clock.new (O.faults opener.old) (O.faults opener.new) }
+    // each source came back, in order, with its name
+    ensures names { IfSome result.front (λ _. map (λ (e : EndedSource O.Source). e.name) result.sources.items ≡ settings.now.sources) }
+    ensures exits { IsCaptureExit result.exit }
+    // a failed call has its exit or its missing source, and these come only with a failed call
+    ensures opens { IfSome result.front (λ _. RoseBy (count_by is_lost result.sources.items) (O.faults opener.old) (O.faults opener.new)) }
+    ensures file_cause { result.exit ≡ 3 → Rose (L.file_faults outlet.old) (L.file_faults outlet.new) }
+    ensures file_seen { AreTurnsLeft result.front → ¬ (result.exit ≡ 3) → L.file_faults outlet.new ≡ L.file_faults outlet.old }
+    ensures say_cause { result.exit ≡ 4 → Rose (L.say_faults outlet.old) (L.say_faults outlet.new) }
+    ensures say_seen { AreTurnsLeft result.front → ¬ (result.exit ≡ 3) → ¬ (result.exit ≡ 4) → L.say_faults outlet.new ≡ L.say_faults outlet.old }
+    // so it may be called again
+    ensures closed { (result.exit ≡ 0) ⊎ (result.exit ≡ 2) → L.has_file outlet.new ≡ false }
+    ensures closed_unsaid { result.exit ≡ 4 → IfSome result.front (λ f. turns_made f < 2 ^ 56 → HadMemory (length settings.now.sources) f → L.has_file outlet.new ≡ false) }
+    ensures content { EachSource (IsContent (O.content opener.old) O.Source.taken O.Source.left) result.sources.items }
+{
+    let Ok(opened) = open_sources(alloc, &settings.sources, opener) else {
+        return unbegun(alloc);
+    };
+    let Captured {
+        sources,
+        writer,
+        front,
+    } = capture(rt, alloc, settings, opened, outlet, clock);
+    match front {
+        None => unbegun(alloc),
+        Some(front) => Outcome {
+            exit: exit_of(&sources, writer),
+            sources,
+            front: Some(front),
+        },
+    }
+}

@@ -1,0 +1,4 @@
+pub mod Begun
+pub mod Captures
+pub mod Places
+pub mod inner

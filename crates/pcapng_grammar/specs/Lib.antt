@@ -1,0 +1,7 @@
+pub mod Options
+pub mod Blocks
+pub mod Files
+pub mod Defects
+pub mod Written
+pub mod Laws
+pub mod inner

@@ -1,0 +1,4 @@
+pub mod Fronts
+pub mod Lists
+pub mod Lengths
+pub mod Spelled

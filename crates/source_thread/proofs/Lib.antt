@@ -1,0 +1,6 @@
+pub mod Entries
+pub mod Batches
+pub mod Readers
+pub mod Passing
+pub mod Pieces
+pub mod Causes

@@ -1,0 +1,48 @@
+//! The reader of a source's bytes: all that the crate uses of it.
+ghost use Rattle.std.specs.Prelude.{◌≡◌, ◌≤◌, ◌<◌, ◌+◌, ◌^◌, ◌↔◌, [], length, IfOk, OnOk, OnErr};
+ghost use Rattle.source_thread.specs.inner.Readers.{StandsFor, IsDrained, Feeds, Gives, Steps, IsFitStep, IsWaiting, StepAdvances, fed_count, name_of};
+
+use cap_base::{Name, NoMemory, Step};
+pub use source_reader::Reader;
+use std::alloc::Global;
+
+/// A reader for a source of this name, that was fed nothing, and cuts packets to the snap length.
+pub fn new_reader(alloc: Global, name: &Name, snap: Option<u32>) -> Result<Reader, NoMemory>
+    requires { length name.now ≤ 65535 }
+    ensures name { IfOk result (λ r. name_of r ≡ name.now) }
+    ensures snap { IfOk result (λ r. r.snap ≡ snap) }
+    ensures waits { IfOk result IsWaiting }
+    ensures drained { IfOk result IsDrained }
+    ensures begun { IfOk result (λ r. fed_count r ≡ 0) }
+    ensures stands { IfOk result (λ r. StandsFor r [] []) }
+{
+    Reader::new(alloc, name.copy()?, snap)
+}
+
+/// Feeds a whole piece.
+pub fn feed_piece(reader: &mut Reader, bytes: &[u8]) -> Result<(), NoMemory>
+    requires waits { IsWaiting reader.old }
+    requires short { length bytes.now ≤ 65536 }
+    requires fits { fed_count reader.old + length bytes.now ≤ 2 ^ 62 }
+    ensures fed { OnOk result (Feeds reader.old reader.new bytes.now) }
+    ensures sum { OnOk result (fed_count reader.new ≡ fed_count reader.old + length bytes.now) }
+    ensures name { name_of reader.new ≡ name_of reader.old }
+    ensures snap { reader.new.snap ≡ reader.old.snap }
+    ensures err { OnErr result (reader.new ≡ reader.old) }
+{
+    reader.feed(bytes)?;
+    Ok(())
+}
+
+/// The next step, whose interface or packet is fit for the queue.
+pub fn next_step(reader: &mut Reader) -> Result<Step, NoMemory>
+    ensures step { IfOk result (λ step. Steps reader.old reader.new step) }
+    ensures fit { IfOk result IsFitStep }
+    ensures advances { IfOk result (λ step. StepAdvances reader.old reader.new step) }
+    ensures same { fed_count reader.new ≡ fed_count reader.old }
+    ensures name { name_of reader.new ≡ name_of reader.old }
+    ensures snap { reader.new.snap ≡ reader.old.snap }
+    ensures err { OnErr result (Gives reader.old reader.new []) }
+{
+    reader.next()
+}

@@ -1,0 +1,15 @@
+pub mod Openings
+pub mod Countings
+pub mod Lawfulness
+pub mod Shapes
+pub mod Readings
+pub mod Finish
+pub mod Files
+pub mod Totals
+pub mod Lengths
+pub mod Smalls
+pub mod Offers
+pub mod Facts
+pub mod Accounts
+pub mod Wholes
+pub mod Results
