@@ -194,7 +194,7 @@ fn captured<S: Source, R: Threads + Wait + Sync>(
     requires names { All (λ (o : OpenedSource S). length o.name ≤ 4096) opened.items }
     ensures { IfOk result (λ r. turns_made r.front < 2 ^ 56 → counter.new.done ≡ true) }
 {
-    let under_way = UnderWay::new(limits);
+    let under_way = UnderWay::new(alloc, limits);
     let Begun {
         cell,
         mut places,

@@ -1,5 +1,6 @@
 //! When a source offers.
 use crate::under_way::UnderWay;
+use cap_base::Spares;
 use std::hint::spin_loop;
 use std::sync::Wait;
 use std::sync::atomic::AtomicU64;
@@ -129,6 +130,18 @@ impl<'a> Pace<'a> {
         }
         self.stuck_at = Some(under_way.settled());
         under_way.add(packets, bytes);
+    }
+
+    /// The memory of bodies that the writer has done with, for the next ones.
+    pub fn spent_bodies<R: Wait>(&self, rt: &R) -> Option<Spares> {
+        self.under_way?.filled_bundle(rt)
+    }
+
+    /// Gives a bundle back whose memory was used.
+    pub fn give_back_empty<R: Wait>(&self, rt: &R, bundle: Spares) {
+        if let Some(under_way) = self.under_way {
+            under_way.put_empty(rt, bundle);
+        }
     }
 
     /// Gives back the room of packets that were offered and not accepted.

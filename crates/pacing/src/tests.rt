@@ -2,8 +2,8 @@
 ghost use Rattle.std.specs.Prelude.{◌≡◌};
 ghost use Rattle.std.specs.Thread.{IsSync};
 
-use crate::{Arrivals, Pace, UnderWay};
-use cap_base::Limits;
+use crate::{Arrivals, Pace, Spent, UnderWay};
+use cap_base::{Limits, Octets};
 use std::sync::Wait;
 use std::sync::atomic::AtomicU64;
 use std::sync::atomic::Ordering::SeqCst;
@@ -17,7 +17,7 @@ const LIMITS: Limits = Limits {
 
 #[test]
 fn room_is_counted(rt: HostRuntime) -> Result<(), Fail> {
-    let under_way = UnderWay::new(LIMITS);
+    let under_way = UnderWay::new(rt.alloc(), LIMITS);
     let mut pace = Pace::by(&under_way);
     // Nothing is under way: any number of bytes finds room.
     pace.reserve(&rt, 1, 500, false);
@@ -37,7 +37,7 @@ fn room_is_counted(rt: HostRuntime) -> Result<(), Fail> {
 
 #[test]
 fn batches_find_room_in_an_empty_queue(rt: HostRuntime) -> Result<(), Fail> {
-    let under_way = UnderWay::new(LIMITS);
+    let under_way = UnderWay::new(rt.alloc(), LIMITS);
     let pace = Pace::by(&under_way);
     let none = Pace::none();
     assert!(rt; !pace.is_full(9));
@@ -52,7 +52,7 @@ fn batches_find_room_in_an_empty_queue(rt: HostRuntime) -> Result<(), Fail> {
 // A stopped capture keeps nobody, whether a source has seen it or not.
 #[test]
 fn nobody_waits_for_a_stopped_capture(rt: HostRuntime) -> Result<(), Fail> {
-    let under_way = UnderWay::new(LIMITS);
+    let under_way = UnderWay::new(rt.alloc(), LIMITS);
     let mut pace = Pace::by(&under_way);
     pace.reserve(&rt, 10, 10, false);
     pace.reserve(&rt, 10, 10, true);
@@ -105,11 +105,55 @@ fn both<R: Threads + Wait + Sync>(rt: &R, under_way: &UnderWay, offered: &Atomic
 
 #[test]
 fn a_source_waits_for_the_writer(rt: HostRuntime) -> Result<(), Fail> {
-    let under_way = UnderWay::new(LIMITS);
+    let under_way = UnderWay::new(rt.alloc(), LIMITS);
     let offered = AtomicU64::new(0);
     let (over, ()) = both(&rt, &under_way, &offered);
     assert_eq!(rt; over, 0);
     assert_eq!(rt; under_way.packets(), 0);
     assert_eq!(rt; under_way.bytes(), 0);
+    Ok(())
+}
+
+// 64 bodies of 100 bytes come back as one bundle, which is empty when it returns to the writer.
+#[test]
+fn bodies_go_round(rt: HostRuntime) -> Result<(), Fail> {
+    let under_way = UnderWay::new(rt.alloc(), LIMITS);
+    let pace = Pace::by(&under_way);
+    let mut spent = Spent::new(&rt, &under_way);
+    for _ in 0..63u64 {
+        let mut body = Octets::new(rt.alloc());
+        body.append(&[7; 100])?;
+        let Some(bundle) = &mut spent.bundle else {
+            return Err(Fail);
+        };
+        bundle.put(body);
+        spent.give_back(&rt);
+    }
+    assert!(rt; pace.spent_bodies(&rt).is_none());
+    let Some(bundle) = &mut spent.bundle else {
+        return Err(Fail);
+    };
+    bundle.put(Octets::new(rt.alloc()));
+    spent.give_back(&rt);
+    let Some(mut filled) = pace.spent_bodies(&rt) else {
+        return Err(Fail);
+    };
+    assert_eq!(rt; filled.len(), 64);
+    for _ in 0..64u64 {
+        let _ = filled.take();
+    }
+    pace.give_back_empty(&rt, filled);
+    let Some(bundle) = &spent.bundle else {
+        return Err(Fail);
+    };
+    assert_eq!(rt; bundle.len(), 0);
+    Ok(())
+}
+
+// Without a capture no memory comes back.
+#[test]
+fn nothing_comes_back_without_a_capture(rt: HostRuntime) -> Result<(), Fail> {
+    let pace = Pace::none();
+    assert!(rt; pace.spent_bodies(&rt).is_none());
     Ok(())
 }

@@ -1,5 +1,8 @@
 //! The counts that the sources of a capture share with its writer.
-use cap_base::{Limits, MAX_BATCH_PACKETS};
+use crate::bundles::Bundles;
+use cap_base::{Limits, MAX_BATCH_PACKETS, Spares};
+use std::alloc::Global;
+use std::sync::Wait;
 use std::sync::atomic::AtomicU64;
 use std::sync::atomic::Ordering::SeqCst;
 
@@ -14,17 +17,22 @@ pub struct UnderWay {
     settled: AtomicU64,
     /// Above 0 once no source has to wait any more.
     released: AtomicU64,
+    alloc: Global,
+    /// The memory of bodies on its way back. Without memory for it every body is allocated anew.
+    bundles: Option<Bundles>,
 }
 
 impl UnderWay {
     /// Nothing is under way. These are the limits of the queue.
-    pub fn new(limits: Limits) -> UnderWay {
+    pub fn new(alloc: Global, limits: Limits) -> UnderWay {
         UnderWay {
             limits,
             packets: AtomicU64::new(0),
             bytes: AtomicU64::new(0),
             settled: AtomicU64::new(0),
             released: AtomicU64::new(0),
+            alloc,
+            bundles: Bundles::new(alloc).ok(),
         }
     }
 
@@ -54,6 +62,34 @@ impl UnderWay {
         match self.limits.bytes {
             None => true,
             Some(limit) => bytes < limit,
+        }
+    }
+
+    /// A bundle with no memory in it: one that a source gave back, else a new one.
+    pub(crate) fn empty_bundle<R: Wait>(&self, rt: &R) -> Option<Spares> {
+        let bundles = self.bundles.as_ref()?;
+        match bundles.take_empty(rt) {
+            Some(bundle) => Some(bundle),
+            None => Spares::new(self.alloc).ok(),
+        }
+    }
+
+    /// A bundle that the writer gave back.
+    pub(crate) fn filled_bundle<R: Wait>(&self, rt: &R) -> Option<Spares> {
+        self.bundles.as_ref()?.take_filled(rt)
+    }
+
+    /// Gives a bundle to the sources.
+    pub(crate) fn put_filled<R: Wait>(&self, rt: &R, bundle: Spares) {
+        if let Some(bundles) = &self.bundles {
+            bundles.put_filled(rt, bundle);
+        }
+    }
+
+    /// Gives a bundle back to the writer.
+    pub(crate) fn put_empty<R: Wait>(&self, rt: &R, bundle: Spares) {
+        if let Some(bundles) = &self.bundles {
+            bundles.put_empty(rt, bundle);
         }
     }
 

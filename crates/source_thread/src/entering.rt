@@ -34,7 +34,8 @@ fn enter_next<R: Wait>(
     ensures snap { reader.new.snap ≡ reader.old.snap }
     ensures fed { fed_count reader.new ≡ fed_count reader.old }
 {
-    let Ok(step) = next_step(reader) else {
+    let refills = !sender.has_waiting();
+    let Ok(step) = next_step(rt, &sender.pace, refills, reader) else {
         return Err(How::NoMemory);
     };
     match step {

@@ -3,8 +3,10 @@ ghost use Rattle.std.specs.Prelude.{◌≡◌, ◌≤◌, ◌<◌, ◌+◌, ◌^
 ghost use Rattle.source_thread.specs.inner.Readers.{StandsFor, IsDrained, Feeds, Gives, Steps, IsFitStep, IsWaiting, StepAdvances, fed_count, name_of};
 
 use cap_base::{Name, NoMemory, Step};
+use pacing::Pace;
 pub use source_reader::Reader;
 use std::alloc::Global;
+use std::sync::Wait;
 
 /// A reader for a source of this name, that was fed nothing, and cuts packets to the snap length.
 pub fn new_reader(alloc: Global, name: &Name, snap: Option<u32>) -> Result<Reader, NoMemory>
@@ -34,8 +36,26 @@ pub fn feed_piece(reader: &mut Reader, bytes: &[u8]) -> Result<(), NoMemory>
     Ok(())
 }
 
-/// The next step, whose interface or packet is fit for the queue.
-pub fn next_step(reader: &mut Reader) -> Result<Step, NoMemory>
+/// Gives the reader the memory of spent bodies, where it has none left and such memory came back.
+fn refill_reader<R: Wait>(rt: &R, pace: &Pace, refills: bool, reader: &mut Reader)
+    ensures { reader.new ≡ reader.old }
+{
+    if !refills || !reader.wants_spares() {
+        return;
+    }
+    if let Some(spares) = pace.spent_bodies(rt) {
+        let emptied = reader.refill(spares);
+        pace.give_back_empty(rt, emptied);
+    }
+}
+
+/// The next step, whose interface or packet is fit for the queue. Where `refills`, the reader first takes spare memory.
+pub fn next_step<R: Wait>(
+    rt: &R,
+    pace: &Pace,
+    refills: bool,
+    reader: &mut Reader,
+) -> Result<Step, NoMemory>
     ensures step { IfOk result (λ step. Steps reader.old reader.new step) }
     ensures fit { IfOk result IsFitStep }
     ensures advances { IfOk result (λ step. StepAdvances reader.old reader.new step) }
@@ -44,5 +64,6 @@ pub fn next_step(reader: &mut Reader) -> Result<Step, NoMemory>
     ensures snap { reader.new.snap ≡ reader.old.snap }
     ensures err { OnErr result (Gives reader.old reader.new []) }
 {
+    refill_reader(rt, pace, refills, reader);
     reader.next()
 }

@@ -57,7 +57,7 @@ pub fn go_silent<D: Decides, L: Outlet, R: Wait>(
     state.pace.release();
     state.end.say_fault = true;
     let want = state.desk.on_say_fault();
-    match perform_told(&mut state.desk, &mut state.writer, outlet, false) {
+    match perform_told(&mut state.desk, &mut state.writer, outlet, &mut state.spent, false) {
         Ok(()) => Ok(want),
         Err(OutFault::File) => Err(Halt::File),
         Err(OutFault::Say) => unreachable!(),

@@ -24,6 +24,7 @@ use block_writer::{OutFault, Writer};
 use cap_base::{Item, Taken, Worn};
 use cap_outside::{Clock, Outlet};
 use capture_desk::Want;
+use pacing::Spent;
 use packet_queue::Queue;
 use std::sync::Wait;
 use turn_cell::Cell;
@@ -33,6 +34,7 @@ pub fn perform_entry<D: Decides, L: Outlet>(
     desk: &mut D,
     writer: &mut Writer,
     outlet: &mut L,
+    spent: &mut Spent,
     flushes: bool,
     want: Want,
 ) -> Todo
@@ -49,7 +51,7 @@ pub fn perform_entry<D: Decides, L: Outlet>(
     ensures memory { (n : ℕ) → result ≡ todos.NoMemory n → ⊥ }
     ensures uncounted { (w : AWant) → result ≡ todos.Make w → (L.file_faults outlet.new ≡ L.file_faults outlet.old) × (L.say_faults outlet.new ≡ L.say_faults outlet.old) }
 {
-    match perform_told(desk, writer, outlet, flushes) {
+    match perform_told(desk, writer, outlet, spent, flushes) {
         Ok(()) => Todo::Make(want),
         Err(OutFault::File) => Todo::FileFault,
         Err(OutFault::Say) => Todo::SayFault,
@@ -111,6 +113,7 @@ pub fn take_entry<D: Decides, L: Outlet, C: Clock, R: Wait>(
     ensures uncounted { IfOk result (λ todo. (w : AWant) → todo ≡ todos.Make w → (L.file_faults outlet.new ≡ L.file_faults outlet.old) × (L.say_faults outlet.new ≡ L.say_faults outlet.old)) }
     ensures worn { OnErr result (Stays state.old.drain state.new.drain state.old.desk state.new.desk outlet.old outlet.new state.old.writer state.new.writer) }
 {
+    state.spent.give_back(rt);
     state.pace.before_take(rt, cell);
     let now = clock.now();
     let taken = match state.drain.take(rt, cell, now) {
@@ -123,7 +126,7 @@ pub fn take_entry<D: Decides, L: Outlet, C: Clock, R: Wait>(
     state.moment = now;
     state.done = is_done(&taken);
     match state.desk.on_taken(now, taken) {
-        Ok(want) => Ok(perform_entry(&mut state.desk, &mut state.writer, outlet, flushes, want)),
+        Ok(want) => Ok(perform_entry(&mut state.desk, &mut state.writer, outlet, &mut state.spent, flushes, want)),
         Err(_) => Ok(Todo::NoMemory(unput)),
     }
 }

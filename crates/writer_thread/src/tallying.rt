@@ -57,7 +57,7 @@ pub fn tally_entry<D: Decides, L: Outlet, R: Wait>(
         Err(worn) => return Err(worn),
     };
     match state.desk.on_counts(state.moment, &counts) {
-        Ok(want) => Ok(perform_entry(&mut state.desk, &mut state.writer, outlet, false, want)),
+        Ok(want) => Ok(perform_entry(&mut state.desk, &mut state.writer, outlet, &mut state.spent, false, want)),
         Err(_) => Ok(Todo::NoMemory(0)),
     }
 }
