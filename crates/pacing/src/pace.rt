@@ -13,10 +13,21 @@ const SPINS: u32 = 8;
 /// Up to which look it lets other threads run before each.
 const YIELDS: u32 = 58;
 
-/// Up to which look it sleeps for a short time before each, and how long, in microseconds.
+/// Up to which look it does so where the queue is deep, so that the writer is busy for a while, and few sources wait.
+const DEEP_YIELDS: u32 = 16;
+
+/// How many sources are few.
+const FEW: u64 = 2;
+
+/// Up to which look it sleeps for a short time before each.
 const SHORT_SLEEPS: u32 = 258;
 
+/// The least short sleep, in microseconds.
 const SHORT_SLEEP: u64 = 50;
+
+/// By how much a short sleep is longer for each source that waits for a deep queue, in microseconds: so often one of them
+/// looks.
+const SLEEP_PER_SOURCE: u64 = 12;
 
 /// How long it sleeps before each later look, in microseconds.
 const LONG_SLEEP: u64 = 1_000;
@@ -30,18 +41,40 @@ fn sleep_for<R: Wait>(rt: &R, micros: u64) {
     nothing.park_timeout(rt, 0, Duration::from_micros(micros));
 }
 
+/// How long a short sleep is, in microseconds, where so many sources wait. A deep queue is not empty so soon: there the
+/// sources sleep for longer, the more of them wait.
+fn short_sleep(under_way: &UnderWay, waiting: u64) -> u64 {
+    if under_way.is_deep() {
+        SLEEP_PER_SOURCE.saturating_mul(waiting).max(SHORT_SLEEP)
+    } else {
+        SHORT_SLEEP
+    }
+}
+
+/// Up to which look a source lets other threads run before each, where so many sources wait.
+fn yields(under_way: &UnderWay, waiting: u64) -> u32 {
+    if !under_way.is_deep() {
+        YIELDS
+    } else if waiting <= FEW {
+        DEEP_YIELDS
+    } else {
+        SPINS
+    }
+}
+
 /// Lets time pass before a look of this number, and answers how many microseconds it slept.
-fn pause<R: Wait>(rt: &R, look: u32) -> u64 {
+fn pause<R: Wait>(rt: &R, under_way: &UnderWay, look: u32) -> u64 {
     if look < SPINS {
         spin_loop();
         return 0;
     }
-    if look < YIELDS {
+    let waiting = under_way.waiting();
+    if look < yields(under_way, waiting) {
         yield_now();
         return 0;
     }
     let micros = if look < SHORT_SLEEPS {
-        SHORT_SLEEP
+        short_sleep(under_way, waiting)
     } else {
         LONG_SLEEP
     };
@@ -49,9 +82,9 @@ fn pause<R: Wait>(rt: &R, look: u32) -> u64 {
     micros
 }
 
-/// Waits until there is room, and reserves it. False where the writer has taken nothing for ten seconds, or no one has to
+/// Looks until there is room, and reserves it. False where the writer has taken nothing for ten seconds, or no one has to
 /// wait any more; then nothing is reserved.
-fn wait_for_room<R: Wait>(rt: &R, under_way: &UnderWay, packets: u64, bytes: u64) -> bool {
+fn look_for_room<R: Wait>(rt: &R, under_way: &UnderWay, packets: u64, bytes: u64) -> bool {
     let mut settled = under_way.settled();
     let mut slept: u64 = 0;
     let mut look: u32 = 0;
@@ -62,7 +95,7 @@ fn wait_for_room<R: Wait>(rt: &R, under_way: &UnderWay, packets: u64, bytes: u64
         if slept >= LONGEST_WAIT || under_way.is_released() {
             return false;
         }
-        slept = slept.saturating_add(pause(rt, look));
+        slept = slept.saturating_add(pause(rt, under_way, look));
         look = look.saturating_add(1);
         let now = under_way.settled();
         if now != settled {
@@ -71,6 +104,18 @@ fn wait_for_room<R: Wait>(rt: &R, under_way: &UnderWay, packets: u64, bytes: u64
         }
     }
     false
+}
+
+/// Waits until there is room, and reserves it. False where the writer has taken nothing for ten seconds, or no one has to
+/// wait any more; then nothing is reserved.
+fn wait_for_room<R: Wait>(rt: &R, under_way: &UnderWay, packets: u64, bytes: u64) -> bool {
+    if under_way.try_add(packets, bytes) {
+        return true;
+    }
+    under_way.begin_waiting();
+    let found = look_for_room(rt, under_way, packets, bytes);
+    under_way.end_waiting();
+    found
 }
 
 /// One source's part in the pacing of a capture. Without a capture it never waits.
