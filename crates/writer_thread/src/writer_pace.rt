@@ -19,9 +19,9 @@ const LONGEST_SLEEP: u64 = 2_000;
 /// The writer's part in the pacing of a capture: how it waits where it has found nothing, and what it tells the sources that
 /// wait for room. Nothing is proved of it: it makes no turn and changes nothing.
 ///
-/// Before a Take that follows an Empty one it looks for a while whether another thread has had a turn since, then it
-/// sleeps until one has: for 50 microseconds, then for twice as long each time, up to 2 milliseconds. Behind a Take that
-/// found something it begins anew.
+/// Behind the first Take that finds nothing it looks for a while whether another thread has had a turn since. Then, and
+/// behind each further one, it sleeps until one has: for 50 microseconds, then for twice as long each time, up to 2
+/// milliseconds. Behind a Take that found something it begins anew.
 ///
 /// The packets that it took it says at the latest before it rests, and behind the last Take.
 #[derive(Drop)]
@@ -98,12 +98,20 @@ impl<'a> WriterPace<'a> {
         }
     }
 
-    fn wait<R: Wait>(&mut self, rt: &R, cell: &Cell<Queue>) {
+    // Whether another thread has had a turn since.
+    fn look(&self, cell: &Cell<Queue>) -> bool {
         'looks: for _ in 0..LOOKS {
             if cell.passed() != self.seen {
-                return;
+                return true;
             }
             spin_loop();
+        }
+        false
+    }
+
+    fn wait<R: Wait>(&mut self, rt: &R, cell: &Cell<Queue>) {
+        if self.sleep == FIRST_SLEEP && self.look(cell) {
+            return;
         }
         cell.rest(rt, self.seen, Duration::from_micros(self.sleep));
         self.sleep = self.sleep.saturating_mul(2).min(LONGEST_SLEEP);
