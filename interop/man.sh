@@ -15,7 +15,7 @@ if ! groff -man -Tutf8 -P-cbou -ww "$page" >"$text" 2>"$warnings" || [ -s "$warn
     cat "$warnings"
     exit 1
 fi
-for heading in NAME SYNOPSIS DESCRIPTION OPTIONS MODES 'EXIT STATUS' MESSAGES FILES EXAMPLES 'SEE ALSO'; do
+for heading in NAME SYNOPSIS DESCRIPTION OPTIONS MODES 'EXIT STATUS' SIGNALS MESSAGES FILES EXAMPLES 'SEE ALSO'; do
     if ! grep -q "$heading" "$text"; then
         echo "FAILED: no heading $heading"
         exit 1
