@@ -6,6 +6,7 @@ memory, its exit and its words. It measures nothing and prints nothing by itself
 import argparse
 import collections
 import contextlib
+import errno
 import mmap
 import os
 import re
@@ -260,15 +261,28 @@ class Watch(threading.Thread):
 def waited(child, watch):
     """Waits for the child: its exit, and its own use of the processors."""
     _, status, usage = os.wait4(child.pid, 0)
-    watch.done.set()
-    watch.join()
     child.returncode = os.waitstatus_to_exitcode(status)
+    watch.done.set()
     return child.returncode, usage
 
 
 def feed(streams, fifos):
     """A cat for each FIFO, which waits for a reader and then writes the stream at full speed."""
     return [subprocess.Popen(["sh", "-c", 'exec cat "$0" >"$1"', stream, fifo], stderr=subprocess.DEVNULL) for stream, fifo in zip(streams, fifos)]
+
+
+def open_writer(fifo, seconds=10):
+    """The writing end of a FIFO, once it has a reader; without one the script ends here after some seconds."""
+    end = time.monotonic() + seconds
+    while True:
+        try:
+            writer = os.open(fifo, os.O_WRONLY | os.O_NONBLOCK)
+            os.set_blocking(writer, True)
+            return writer
+        except OSError as error:
+            if error.errno != errno.ENXIO or time.monotonic() > end:
+                sys.exit(f"{os.path.basename(sys.argv[0])}: {fifo} has no reader")
+        time.sleep(0.001)
 
 
 def stop(children):
@@ -285,10 +299,13 @@ def measured(command, streams, fifos, folder, output=subprocess.DEVNULL, limit=6
         with open(os.path.join(folder, "words"), "w+b") as words:
             started = time.monotonic()
             child = subprocess.Popen(command, stdin=subprocess.DEVNULL, stdout=output, stderr=words)
-            watch = Watch(child, limit)
-            watch.start()
-            status, usage = waited(child, watch)
-            seconds = time.monotonic() - started
+            try:
+                watch = Watch(child, limit)
+                watch.start()
+                status, usage = waited(child, watch)
+                seconds = time.monotonic() - started
+            finally:
+                stop([child])
             words.seek(0)
             text = words.read().decode(errors="replace")
     finally:
