@@ -9,15 +9,16 @@ import os
 import re
 import resource
 import shutil
-import struct
 import subprocess
 import sys
 import tempfile
 import threading
 import time
 
-top = os.path.dirname(os.path.dirname(os.path.abspath(__file__)))
-program = os.path.join(top, "crates", "dumpcap", "out", "dumpcap")
+sys.dont_write_bytecode = True
+sys.path.insert(0, os.path.join(os.path.dirname(os.path.dirname(os.path.abspath(__file__))), "bench"))
+import base
+
 results = {"ok": 0, "FAILED": 0, "skipped": 0}
 
 
@@ -28,36 +29,8 @@ def say(how, name, words=""):
 
 def stream(packets, length=64):
     """A classic pcap stream of so many packets."""
-    out = [struct.pack("<IHHIIII", 0xA1B2C3D4, 2, 4, 0, 0, 262144, 1)]
-    body = bytes(k % 256 for k in range(length))
-    out += [struct.pack("<IIII", k, 0, length, length) + body for k in range(packets)]
-    return b"".join(out)
-
-
-def packets_in(text):
-    """How many whole packet blocks a pcapng text has."""
-    at = found = 0
-    while len(text) - at >= 12:
-        kind, total = struct.unpack_from("<II", text, at)
-        if total < 12 or total > len(text) - at:
-            break
-        found += kind == 6
-        at += total
-    return found
-
-
-def packets_of(names):
-    found = 0
-    for name in names:
-        with open(name, "rb") as file:
-            found += packets_in(file.read())
-    return found
-
-
-def counts(report):
-    """Received, written, dropped and flushed of all interfaces."""
-    lines = re.findall(r"^interface \d+ .*: received (\d+) written (\d+) dropped (\d+) flushed (\d+)$", report, re.M)
-    return [sum(map(int, column)) for column in zip(*lines)] if lines else None
+    body = base.body_of(length)
+    return base.classic_head() + b"".join(base.classic_packet(k, 0, body) for k in range(packets))
 
 
 def run(words, source, **more):
@@ -68,7 +41,7 @@ def run(words, source, **more):
 
 def judge(name, status, wanted, report, files):
     """files: how many whole packet blocks the files have; None where nobody can count them."""
-    told = counts(report)
+    told = base.counts(report)
     if status not in wanted:
         return say("FAILED", name, f"exit {status}, wanted {wanted}: {report!r}")
     if told is None:
@@ -91,7 +64,7 @@ def full_disks(work, source):
                 return say("skipped", "full disks", "mount failed")
             try:
                 status, report = run(["-w", os.path.join(disk, "o"), *words], source)
-                files = packets_of(os.path.join(disk, file) for file in os.listdir(disk))
+                files = base.packets_of(*(os.path.join(disk, file) for file in os.listdir(disk)))
                 if "--sync" in words:
                     says = "output failed" in report
                     say("ok" if status == 3 and says else "FAILED", f"disk of {size} KiB, {name}", f"exit {status}; in the files {files}")
@@ -151,8 +124,8 @@ def little_memory(work, source):
         except subprocess.TimeoutExpired:
             say("FAILED", f"{megabytes} MB of memory", "no end")
             continue
-        told = counts(report)
-        files = packets_of([out]) if os.path.exists(out) else 0
+        told = base.counts(report)
+        files = base.packets_of(out)
         fits = status in (0, 5) or status > 5 and not report and files == 0 or status < 0 and files == 0
         if told is not None:
             fits = fits and told[0] == sum(told[1:]) and told[1] == files
@@ -163,8 +136,8 @@ def little_memory(work, source):
 
 
 def main():
-    if not os.path.exists(program):
-        sys.exit("faults.py: the program isn't built; run ./dumpcap once")
+    global program
+    program = base.options_of(base.parser_of(__doc__)).program
     work = tempfile.mkdtemp(prefix="dumpcap-faults.")
     source = stream(20_000)
     try:
@@ -174,7 +147,7 @@ def main():
         removed_folder(work)
         gone_reader()
         closed = subprocess.run(["sh", "-c", f'exec "{program}" -i - -w "{work}/closed" 2>&-'], input=source)
-        files = packets_of([os.path.join(work, "closed")])
+        files = base.packets_of(os.path.join(work, "closed"))
         say("ok" if closed.returncode == 4 and files == 20_000 else "FAILED", "standard error closed", f"exit {closed.returncode}; in the file {files}")
         little_memory(work, source)
     finally:

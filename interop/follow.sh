@@ -1,34 +1,34 @@
 #!/usr/bin/env bash
 # Follows a file that grows: a writer appends blocks to a pcapng file and says messages into a FIFO, and the lines of
 # ./dumpcap follow have to come before it goes on. File and messages are spelled here from docs/formats.md alone.
-# It is run by hand.
+# It is run by hand. --program PATH runs another program than ./dumpcap.
 set -u
 top=$(cd "$(dirname "$0")/.." && pwd)
 if ! command -v python3 >/dev/null; then
     echo "skipped: python3 is not installed"
     exit 0
 fi
-"$top/dumpcap" check /dev/null >/dev/null 2>&1 # builds the program where it is missing
-exec python3 - "$top/dumpcap" <<'PYTHON'
-import os, select, struct, subprocess, sys, tempfile
+program=$top/dumpcap
+if [ "${1-}" = --program ]; then
+    program=$2
+fi
+"$program" check /dev/null >/dev/null 2>&1 # builds the program where it is missing
+exec python3 - "$program" "$top/bench" <<'PYTHON'
+import os, select, subprocess, sys, tempfile
 
 program = sys.argv[1]
+sys.dont_write_bytecode = True
+sys.path.insert(0, sys.argv[2])
+import base
+
 failed = 0
-
-
-def block(kind, body):
-    body += bytes(-len(body) % 4)
-    length = struct.pack("<I", 12 + len(body))
-    return struct.pack("<I", kind) + length + body + length
-
-
-SECTION = block(0x0A0D0D0A, struct.pack("<IHHq", 0x1A2B3C4D, 1, 0, -1))
-DESCRIPTION = block(1, struct.pack("<HHI", 1, 0, 262144))
+SECTION = base.section()
+DESCRIPTION = base.description()
 
 
 def packet(number):
     captured = bytes([number % 256]) * (number % 300)
-    return block(6, struct.pack("<IIIII", 0, 0, number, len(captured), 1500) + captured)
+    return base.packet_block(number, captured, 1500)
 
 
 def message(kind, body):
