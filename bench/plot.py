@@ -14,7 +14,7 @@ sys.dont_write_bytecode = True
 import base
 
 COUNTS = [1, 2, 4, 8, 16, 32, 64]
-WIDTH, HEIGHT, LEFT, RIGHT, UPPER, LOWER = 720, 420, 70, 690, 60, 330
+WIDTH, HEIGHT, LEFT, RIGHT, UPPER, LOWER = 720, 440, 60, 690, 90, 350
 COLORS = ("#1f5fa8", "#c4581a")
 
 
@@ -61,9 +61,9 @@ def text(x, y, words, anchor="middle", more=""):
     return f'<text x="{x:.1f}" y="{y:.1f}" text-anchor="{anchor}"{more}>{escape(words)}</text>'
 
 
-def line(x, y, to_x, to_y, color):
+def line(x, y, to_x, to_y, color, width=1):
     """A straight line of the chart."""
-    return f'<line x1="{x:.1f}" y1="{y:.1f}" x2="{to_x:.1f}" y2="{to_y:.1f}" stroke="{color}"/>'
+    return f'<line x1="{x:.1f}" y1="{y:.1f}" x2="{to_x:.1f}" y2="{to_y:.1f}" stroke="{color}" stroke-width="{width}"/>'
 
 
 def across(sources):
@@ -80,24 +80,22 @@ def axes(step, steps):
     for sources in COUNTS:
         parts += [line(across(sources), LOWER, across(sources), LOWER + 5, "#444444"), text(across(sources), LOWER + 20, str(sources))]
     parts += [line(LEFT, UPPER, LEFT, LOWER, "#444444"), text((LEFT + RIGHT) / 2, LOWER + 42, "FIFOs read at once")]
-    middle = (UPPER + LOWER) / 2
-    return parts + [text(22, middle, "million packets a second in the file", more=f' transform="rotate(-90 22 {middle:.1f})"')]
+    return parts + [text(LEFT - 36, UPPER - 16, "million packets a second in the file", "start")]
 
 
 def curve(values, most, color):
-    """The line of a tool with a dot for each number of FIFOs."""
+    """The line of a tool, with a dot for each number of FIFOs."""
     places = [(across(sources), LOWER - value / most * (LOWER - UPPER)) for sources, value in zip(COUNTS, values)]
-    points = " ".join(f"{x:.1f},{y:.1f}" for x, y in places)
-    dots = [f'<circle cx="{x:.1f}" cy="{y:.1f}" r="4" fill="{color}"/>' for x, y in places]
-    return [f'<polyline points="{points}" fill="none" stroke="{color}" stroke-width="2.5"/>', *dots]
+    parts = [line(*one, *next_one, color, 2.5) for one, next_one in zip(places, places[1:])]
+    return parts + [f'<circle cx="{x:.1f}" cy="{y:.1f}" r="4" fill="{color}"/>' for x, y in places]
 
 
 def legend(tools):
     """The names of the lines, in a row above the chart."""
     parts = []
     for k, tool in enumerate(tools):
-        x = LEFT + 20 + 200 * k
-        parts += [f'<rect x="{x}" y="{UPPER - 24}" width="22" height="4" fill="{COLORS[k]}"/>', text(x + 30, UPPER - 17, tool, "start")]
+        x = RIGHT - 340 + 170 * k
+        parts += [f'<rect x="{x}" y="{UPPER - 22}" width="22" height="4" fill="{COLORS[k]}"/>', text(x + 28, UPPER - 16, tool, "start")]
     return parts
 
 
