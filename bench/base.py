@@ -268,7 +268,8 @@ def waited(child, watch):
 
 def feed(streams, fifos):
     """A cat for each FIFO, which waits for a reader and then writes the stream at full speed."""
-    return [subprocess.Popen(["sh", "-c", 'exec cat "$0" >"$1"', stream, fifo], stderr=subprocess.DEVNULL) for stream, fifo in zip(streams, fifos)]
+    words = ["sh", "-c", 'exec cat "$0" >"$1"']
+    return [subprocess.Popen([*words, stream, fifo], stderr=subprocess.DEVNULL) for stream, fifo in zip(streams, fifos)]
 
 
 def open_writer(fifo, seconds=10):
@@ -316,11 +317,9 @@ def measured(command, streams, fifos, folder, output=subprocess.DEVNULL, limit=6
 def table(head, rows):
     """Prints rows of words under a head, in columns, as a table of Markdown."""
     widths = [max(len(row[k]) for row in [head, *rows]) for k in range(len(head))]
-    line = lambda row: "| " + " | ".join(word.ljust(width) if k == 0 else word.rjust(width) for k, (word, width) in enumerate(zip(row, widths))) + " |"
-    print(line(head))
-    print("|" + "|".join("-" * (width + 2) if k == 0 else "-" * (width + 1) + ":" for k, width in enumerate(widths)) + "|")
-    for row in rows:
-        print(line(row))
+    rules = ["-" * widths[0], *("-" * (width - 1) + ":" for width in widths[1:])]
+    for row in [head, rules, *rows]:
+        print("|", " | ".join([row[0].ljust(widths[0]), *(word.rjust(width) for word, width in zip(row[1:], widths[1:]))]), "|")
     print(flush=True)
 
 

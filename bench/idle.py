@@ -52,6 +52,22 @@ def until_written(writer, number, out, limit=30):
     return (time.monotonic() - started) * 1000
 
 
+def single_packets(options, writers, out):
+    """Sends the single packets and prints how soon they were written; says whether all were."""
+    times = []
+    for number in range(options.packets):
+        time.sleep(options.silence)
+        times.append(until_written(writers[number % len(writers)], number, out))
+    late = times.count(None)
+    times = [value for value in times if value is not None]
+    if times:
+        print(f"{len(times)} packets, each behind {options.silence:g} s of silence, are in the file after: "
+              f"{base.spread(times, 'ms')}", flush=True)
+    if late:
+        print(f"FAILED: {late} packets weren't in the file after 30 s")
+    return not late
+
+
 def handles_interrupt(child):
     """Whether the process catches SIGINT, by its status in /proc."""
     with open(f"/proc/{child.pid}/status") as status:
@@ -79,7 +95,8 @@ def judge(child, writers, sent, out, report):
     report.seek(0)
     told, found = base.counts(report.read().decode()), base.packets_of(out)
     fine = status == 0 and found == sent and told is not None and told[:2] == [sent, sent]
-    print(f"{'ok' if fine else 'FAILED'}: ended {how}: exit {status}, {found} of {sent} packets in the file, received, written, dropped and flushed {told}")
+    print(f"{'ok' if fine else 'FAILED'}: ended {how}: exit {status}, {found} of {sent} packets in the file; "
+          f"received, written, dropped and flushed {told}")
     return fine
 
 
@@ -92,18 +109,10 @@ def measure(options, folder):
             writers = open_writers(fifos)
             time.sleep(1)
             spent, seconds = idle_share(child, options.seconds)
-            print(f"{options.fifos} quiet FIFOs: {spent:.2f} s of processor time in {seconds:.1f} s, {100 * spent / seconds:.2f} % of one processor", flush=True)
-            times = []
-            for number in range(options.packets):
-                time.sleep(options.silence)
-                times.append(until_written(writers[number % len(writers)], number, out))
-            late = times.count(None)
-            times = [value for value in times if value is not None]
-            if times:
-                print(f"{len(times)} packets, each behind {options.silence:g} s of silence, are in the file after: {base.spread(times, 'ms')}", flush=True)
-            if late:
-                print(f"FAILED: {late} packets weren't in the file after 30 s")
-            return judge(child, writers, options.packets, out, report) and not late
+            print(f"{options.fifos} quiet FIFOs: {spent:.2f} s of processor time in {seconds:.1f} s, "
+                  f"{100 * spent / seconds:.2f} % of one processor", flush=True)
+            soon = single_packets(options, writers, out)
+            return judge(child, writers, options.packets, out, report) and soon
         finally:
             base.stop([child])
 

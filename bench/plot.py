@@ -2,9 +2,9 @@
 """plot.py: a chart of captures from 1 to 64 FIFOs that cat feeds at full speed, by this dumpcap and Wireshark's.
 
 For each number of FIFOs, which have the packets together, both capture them several times in turn, and the most packets a second that
-stand in the file are taken. It prints them in a table and writes the chart as docs/sources.svg. Where Wireshark's dumpcap isn't installed it says
-so, and the chart has this one's line alone. Where this dumpcap's file hasn't all packets, or its exit isn't 0, it says so and ends
-with 1, without a chart. The files are in memory. It is run by hand."""
+stand in the file are taken. It prints them in a table and writes the chart as docs/sources.svg. Where Wireshark's dumpcap isn't
+installed it says so, and the chart has this one's line alone. Where this dumpcap's file hasn't all packets, or its exit isn't 0, it says
+so and ends with 1, without a chart. The files are in memory. It is run by hand."""
 import math
 import os
 import sys
@@ -103,7 +103,8 @@ def chart(rates, caption):
     """The chart as SVG."""
     step = step_of(max(value for values in rates.values() for value in values))
     steps = max(1, math.ceil(max(value for values in rates.values() for value in values) / step))
-    parts = [f'<svg xmlns="http://www.w3.org/2000/svg" width="{WIDTH}" height="{HEIGHT}" viewBox="0 0 {WIDTH} {HEIGHT}" font-family="sans-serif" font-size="13" fill="#222222">',
+    parts = [f'<svg xmlns="http://www.w3.org/2000/svg" width="{WIDTH}" height="{HEIGHT}" viewBox="0 0 {WIDTH} {HEIGHT}"',
+             ' font-family="sans-serif" font-size="13" fill="#222222">',
              f'<rect width="{WIDTH}" height="{HEIGHT}" fill="#ffffff"/>',
              text(WIDTH / 2, 24, "Packets in the file, by the number of FIFOs", more=' font-size="16"'), *axes(step, steps)]
     for color, values in zip(COLORS, rates.values()):

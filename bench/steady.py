@@ -48,9 +48,10 @@ def ring(options, folder):
     named = sum(line.startswith("file ") for line in lines)
     kept = glob.glob(os.path.join(folder, "ring_*.pcapng"))
     fine = (capture, follower, seen) == (0, 0, options.packets) and 1 <= len(kept) <= 3
-    print(f"r. A ring of 3 files of {options.filesize:,} kB: {options.packets:,} packets in {seconds:.2f} s, {options.packets / seconds:,.0f} a second")
-    print(f"{'ok' if fine else 'FAILED'}: capture's exit {capture}, follow's exit {follower}; follow saw {seen:,} packets in {named} files; "
-          f"{len(kept)} files are kept, with {base.packets_of(*kept):,} packets")
+    print(f"r. A ring of 3 files of {options.filesize:,} kB: {options.packets:,} packets sent, {seen:,} seen by follow in {seconds:.2f} s, "
+          f"{seen / seconds:,.0f} a second")
+    print(f"{'ok' if fine else 'FAILED'}: capture's exit {capture}, follow's exit {follower}; follow saw {seen:,} packets in "
+          f"{named} files; {len(kept)} files are kept, with {base.packets_of(*kept):,} packets")
     others = [line for line in lines if not line.startswith(("packet ", "file "))]
     for line in others[-3:]:
         print(f"follow says: {line}")
@@ -104,7 +105,8 @@ def paced(options, folder):
     fine = status == 0 and found == pace.sent and told == [found, found, 0, 0]
     print(f"s. One FIFO at {options.rate:,} packets a second for {last[2] - pace.started:.1f} s: memory {first[0]:.2f} MB after "
           f"{first[2] - pace.started:.1f} s, {last[0]:.2f} MB at the end; {100 * (last[1] - first[1]) / seconds:.2f} % of one processor between")
-    print(f"{'ok' if fine else 'FAILED'}: exit {status}, {found:,} of {pace.sent:,} packets in the file; received, written, dropped and flushed {told}\n", flush=True)
+    print(f"{'ok' if fine else 'FAILED'}: exit {status}, {found:,} of {pace.sent:,} packets in the file; "
+          f"received, written, dropped and flushed {told}\n", flush=True)
     return fine
 
 

@@ -160,7 +160,8 @@ def main():
     parser.add_argument("--large", type=int, default=400_000, help="1500-byte packets of part b (400000)")
     parser.add_argument("--few", type=int, default=200_000, help="packets of part e (200000)")
     parser.add_argument("--runs", type=int, default=3, help="runs of each line, of which the best counts (3)")
-    parser.add_argument("--fifos", default=[1, 2, 8, 64], type=lambda text: [int(word) for word in text.split(",")], help="numbers of FIFOs of part d (1,2,8,64)")
+    numbers = lambda text: [int(word) for word in text.split(",")]
+    parser.add_argument("--fifos", default=[1, 2, 8, 64], type=numbers, help="numbers of FIFOs of part d (1,2,8,64)")
     options = base.options_of(parser)
     print(f"{base.machine()}\n")
     with base.work_folder() as folder:
