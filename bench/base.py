@@ -11,6 +11,7 @@ import mmap
 import os
 import re
 import shutil
+import signal
 import statistics
 import struct
 import subprocess
@@ -255,7 +256,8 @@ class Watch(threading.Thread):
         while not self.done.wait(0.003):
             self.memory = max(self.memory, field_of(self.child.pid, "VmHWM"))
             if time.monotonic() > self.end:
-                self.child.kill()
+                with contextlib.suppress(ProcessLookupError):
+                    os.kill(self.child.pid, signal.SIGKILL)
 
 
 def waited(child, watch):

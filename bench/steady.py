@@ -3,10 +3,11 @@
 
 Part r feeds one FIFO at full speed by cat into a ring of three files that switches many times, with `dumpcap follow` beside it on the
 capture's messages: it prints both exits, the packets that follow saw, the files that were named, the packets in the files that are
-kept, and follow's last words where it couldn't go on. A follower that is several files behind a small ring ends with exit 8, and the
-capture then loses its reader and ends with 4; at the default size of files that isn't expected. Part s writes single packets into one
-FIFO at 1,000 a second for ten minutes: it prints the capture's memory (VmRSS) after the first ten seconds and at the end, its processor
-time between these as a share of one processor, and whether all packets stand in the file. It is run by hand."""
+kept, and follow's last words. A follower that is several files behind a small ring ends with exit 8, and the capture then loses its
+reader and ends with 4; at the default size of files that isn't expected, but it may be seen with smaller ones, and where other programs
+keep the processors from the follower. Part s writes single packets into one FIFO at 1,000 a second for ten minutes: it prints the
+capture's memory (VmRSS) after the first ten seconds and at the end, its processor time between these as a share of one processor, and
+whether all packets stand in the file. It is run by hand."""
 import glob
 import os
 import subprocess
@@ -115,7 +116,7 @@ def main():
     parser = base.parser_of(__doc__)
     parser.add_argument("--parts", default="rs", help="letters of parts (rs)")
     parser.add_argument("--packets", type=int, default=1_000_000, help="packets of part r (1000000)")
-    parser.add_argument("--filesize", type=int, default=4000, help="kB of a file of part r (4000)")
+    parser.add_argument("--filesize", type=int, default=12_000, help="kB of a file of part r (12000)")
     parser.add_argument("--seconds", type=float, default=600, help="how long part s lasts (600)")
     parser.add_argument("--rate", type=int, default=1000, help="packets a second of part s (1000)")
     options = base.options_of(parser)
