@@ -6,8 +6,8 @@ capture's messages: it prints both exits, the packets that follow saw, the files
 kept, and follow's last words. A follower that is several files behind a small ring ends with exit 8, and the capture then loses its
 reader and ends with 4; at the default size of files that isn't expected, but it may be seen with smaller ones, and where other programs
 keep the processors from the follower. Part s writes single packets into one FIFO at 1,000 a second for ten minutes: it prints the
-capture's memory (VmRSS) after the first ten seconds and at the end, its processor time between these as a share of one processor, and
-whether all packets stand in the file. It is run by hand."""
+capture's memory (VmRSS) after the first ten seconds, at half the time and at the end, its processor time from the first to the last of
+these as a share of one processor, and whether all packets stand in the file. It is run by hand."""
 import glob
 import os
 import subprocess
@@ -92,20 +92,21 @@ def paced(options, folder):
             writer = base.open_writer(fifo)
             os.write(writer, base.classic_head())
             pace = Pace(writer, options.rate)
-            pace.go_on(min(10, options.seconds / 2))
-            first = look(child)
-            pace.go_on(options.seconds)
-            last = look(child)
+            looks = []
+            for seconds in (min(10, options.seconds / 4), options.seconds / 2, options.seconds):
+                pace.go_on(seconds)
+                looks.append(look(child))
             os.close(writer)
             status = child.wait(60)
             report.seek(0)
             told = base.counts(report.read().decode())
         finally:
             base.stop([child])
-    found, seconds = base.packets_of(out), last[2] - first[2]
+    found, first, last = base.packets_of(out), looks[0], looks[-1]
     fine = status == 0 and found == pace.sent and told == [found, found, 0, 0]
-    print(f"s. One FIFO at {options.rate:,} packets a second for {last[2] - pace.started:.1f} s: memory {first[0]:.2f} MB after "
-          f"{first[2] - pace.started:.1f} s, {last[0]:.2f} MB at the end; {100 * (last[1] - first[1]) / seconds:.2f} % of one processor between")
+    memory = ", ".join(f"{megabytes:.2f} MB after {moment - pace.started:.1f} s" for megabytes, _, moment in looks)
+    share = 100 * (last[1] - first[1]) / (last[2] - first[2])
+    print(f"s. One FIFO at {options.rate:,} packets a second: memory {memory}; {share:.2f} % of one processor from the first to the last of these")
     print(f"{'ok' if fine else 'FAILED'}: exit {status}, {found:,} of {pace.sent:,} packets in the file; "
           f"received, written, dropped and flushed {told}\n", flush=True)
     return fine
