@@ -34,8 +34,7 @@ fn enter_next<R: Wait>(
     ensures snap { reader.new.snap ≡ reader.old.snap }
     ensures fed { fed_count reader.new ≡ fed_count reader.old }
 {
-    let refills = !sender.has_waiting();
-    let Ok(step) = next_step(rt, &sender.pace, refills, reader) else {
+    let Ok(step) = next_step(rt, &sender.pace, reader) else {
         return Err(How::NoMemory);
     };
     match step {

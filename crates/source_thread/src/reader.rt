@@ -37,10 +37,10 @@ pub fn feed_piece(reader: &mut Reader, bytes: &[u8]) -> Result<(), NoMemory>
 }
 
 /// Gives the reader the memory of spent bodies, where it has none left and such memory came back.
-fn refill_reader<R: Wait>(rt: &R, pace: &Pace, refills: bool, reader: &mut Reader)
+fn refill_reader<R: Wait>(rt: &R, pace: &Pace, reader: &mut Reader)
     ensures { reader.new ≡ reader.old }
 {
-    if !refills || !reader.wants_spares() {
+    if !reader.wants_spares() {
         return;
     }
     if let Some(spares) = pace.spent_bodies(rt) {
@@ -49,13 +49,8 @@ fn refill_reader<R: Wait>(rt: &R, pace: &Pace, refills: bool, reader: &mut Reade
     }
 }
 
-/// The next step, whose interface or packet is fit for the queue. Where `refills`, the reader first takes spare memory.
-pub fn next_step<R: Wait>(
-    rt: &R,
-    pace: &Pace,
-    refills: bool,
-    reader: &mut Reader,
-) -> Result<Step, NoMemory>
+/// The next step, whose interface or packet is fit for the queue. The reader first takes spare memory, where it has none.
+pub fn next_step<R: Wait>(rt: &R, pace: &Pace, reader: &mut Reader) -> Result<Step, NoMemory>
     ensures step { IfOk result (λ step. Steps reader.old reader.new step) }
     ensures fit { IfOk result IsFitStep }
     ensures advances { IfOk result (λ step. StepAdvances reader.old reader.new step) }
@@ -64,6 +59,6 @@ pub fn next_step<R: Wait>(
     ensures snap { reader.new.snap ≡ reader.old.snap }
     ensures err { OnErr result (Gives reader.old reader.new []) }
 {
-    refill_reader(rt, pace, refills, reader);
+    refill_reader(rt, pace, reader);
     reader.next()
 }

@@ -80,13 +80,6 @@ impl<'a> Sender<'a> {
         }
     }
 
-    /// Whether a packet waits.
-    pub fn has_waiting(&self) -> bool
-        requires { IsFresh self.now.batch }
-    {
-        self.waiting_len() > 0
-    }
-
     /// Whether as many packets wait as may be offered at once.
     fn is_full(&self) -> bool
         requires { IsFresh self.now.batch }
