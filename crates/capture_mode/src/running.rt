@@ -1,33 +1,48 @@
 //! The capture that the words of a command line ask for.
-ghost use Rattle.std.specs.Prelude.{◌≡◌, ◌<◌, ◌^◌, ◌⊎◌, length, map, [], false, IfSome, IsNone};
+ghost use Rattle.std.specs.Prelude.{◌≡◌, ◌<◌, ◌≤◌, ◌^◌, ◌⊎◌, length, map, [], false, vec_capacity, IfSome, IsNone};
 ghost use Rattle.std.specs.List.{count_by};
 ghost use Rattle.cap_base.specs.Lawful.{AreLawful};
-ghost use Rattle.cap_outside.specs.Causes.{Rose};
+ghost use Rattle.cap_outside.specs.Causes.{one_higher};
 ghost use Rattle.turn_cell.specs.Passes.{turns_made};
 ghost use Rattle.source_thread.specs.declared.ended.Ended.{Ended as EndedSource};
 ghost use Rattle.source_thread.specs.Sources.{facts_of};
 ghost use Rattle.capture_run.specs.Command.{CommandIs, RoseBy};
-ghost use Rattle.capture_mode.specs.Outcomes.{IsCaptureExit, IsUnbegun, AreTurnsLeft, HadMemory, is_lost, EachSource, IsContent};
+ghost use Rattle.capture_mode.specs.Opening.{is_lost};
+ghost use Rattle.capture_mode.specs.Outcomes.{IsCaptureExit, IsUnbegun, AreTurnsLeft, HadMemory, EachSource, IsContent};
+ghost use Rattle.capture_mode.specs.inner.Opened.{unread};
 
 use crate::exits::exit_of;
 use crate::opening::open_sources;
 use crate::outcome::Outcome;
-use cap_base::Settings;
-use cap_outside::{Clock, Opener, Outlet};
-use capture_run::{Captured, capture};
+use cap_base::{How, Settings};
+use cap_outside::{Clock, Opened, Opener, Outlet, Source};
+use capture_run::capture;
+use source_thread::Ended;
 use std::alloc::Global;
 use std::sync::Wait;
 use std::thread::Threads;
 
-/// What a capture without its first turn comes to.
-fn unbegun<S: Drop>(alloc: Global) -> Outcome<S>
+/// What a capture without its first turn comes to: the sources that were opened come back as they are, in `room`, which is
+/// empty and has room for them.
+fn unbegun<S: Source>(opened: Vec<Opened<S>>, room: Vec<Ended<S>>) -> Outcome<S>
+    requires empty { room.items ≡ [] }
+    requires room { length opened.items ≤ vec_capacity room }
     ensures exit { result.exit ≡ 5 }
-    ensures sources { result.sources.items ≡ [] }
+    ensures sources { result.sources.items ≡ map unread opened.items }
     ensures front { IsNone result.front }
 {
+    let mut sources = room;
+    let mut waiting = opened.into_iter();
+    'sources: while let Some(Opened { name, source }) = waiting.next() {
+        sources.push_reserved(Ended {
+            name,
+            source,
+            how: How::NoMemory,
+        });
+    }
     Outcome {
         exit: 5,
-        sources: Vec::new(alloc),
+        sources,
         front: None,
     }
 }
@@ -43,7 +58,7 @@ fn unbegun<S: Drop>(alloc: Global) -> Outcome<S>
 ///   numbers, or is too long,
 /// - 0 else.
 ///
-/// Where memory was wanting before the first turn, no front and no source comes back.
+/// Where memory was wanting before the first turn, no front comes back, and of the sources those that were opened, unread.
 pub fn run_capture<O: Opener, L: Outlet, C: Clock, R: Threads + Wait + Sync>(
     rt: &R,
     alloc: Global,
@@ -56,35 +71,35 @@ pub fn run_capture<O: Opener, L: Outlet, C: Clock, R: Threads + Wait + Sync>(
     requires no_file { L.has_file outlet.old ≡ false }
     ensures captured { IfSome result.front (λ f. CommandIs O.opened (O.content opener.old) (facts_of O.Source.taken O.Source.left O.Source.ends O.Source.faults) L.stands_for C.has_read settings.now result.exit result.sources.items f opener.old opener.new outlet.old outlet.new clock.old clock.new
         (O.faults opener.old) (O.faults opener.new) (L.file_faults outlet.old) (L.file_faults outlet.new) (L.say_faults outlet.old) (L.say_faults outlet.new)) }
-    ensures none { IsNone result.front → IsUnbegun O.opened settings.now.sources result.exit result.sources.items opener.old opener.new outlet.old outlet.new clock.old clock.new (O.faults opener.old) (O.faults opener.new) }
+    ensures none { IsNone result.front → IsUnbegun O.opened (O.content opener.old) (facts_of O.Source.taken O.Source.left O.Source.ends O.Source.faults) settings.now.sources result.exit result.sources.items opener.old opener.new outlet.old outlet.new clock.old clock.new (O.faults opener.old) (O.faults opener.new) }
     // each source came back, in order, with its name
     ensures names { IfSome result.front (λ _. map (λ (e : EndedSource O.Source). e.name) result.sources.items ≡ settings.now.sources) }
     ensures exits { IsCaptureExit result.exit }
     // a failed call has its exit or its missing source, and these come only with a failed call
     ensures opens { IfSome result.front (λ _. RoseBy (count_by is_lost result.sources.items) (O.faults opener.old) (O.faults opener.new)) }
-    ensures file_cause { result.exit ≡ 3 → Rose (L.file_faults outlet.old) (L.file_faults outlet.new) }
+    ensures file_cause { result.exit ≡ 3 → L.file_faults outlet.new ≡ one_higher (L.file_faults outlet.old) }
     ensures file_seen { AreTurnsLeft result.front → ¬ (result.exit ≡ 3) → L.file_faults outlet.new ≡ L.file_faults outlet.old }
-    ensures say_cause { result.exit ≡ 4 → Rose (L.say_faults outlet.old) (L.say_faults outlet.new) }
+    ensures say_cause { result.exit ≡ 4 → L.say_faults outlet.new ≡ one_higher (L.say_faults outlet.old) }
     ensures say_seen { AreTurnsLeft result.front → ¬ (result.exit ≡ 3) → ¬ (result.exit ≡ 4) → L.say_faults outlet.new ≡ L.say_faults outlet.old }
     // so it may be called again
     ensures closed { (result.exit ≡ 0) ⊎ (result.exit ≡ 2) → L.has_file outlet.new ≡ false }
     ensures closed_unsaid { result.exit ≡ 4 → IfSome result.front (λ f. turns_made f < 2 ^ 56 → HadMemory (length settings.now.sources) f → L.has_file outlet.new ≡ false) }
+    ensures closed_starved { result.exit ≡ 5 → IfSome result.front (λ f. turns_made f < 2 ^ 56 → HadMemory (length settings.now.sources) f → L.has_file outlet.new ≡ false) }
     ensures content { EachSource (IsContent (O.content opener.old) O.Source.taken O.Source.left) result.sources.items }
 {
-    let Ok(opened) = open_sources(alloc, &settings.sources, opener) else {
-        return unbegun(alloc);
+    let Ok(room) = Vec::with_capacity(alloc, settings.sources.len()) else {
+        return unbegun(Vec::new(alloc), Vec::new(alloc));
     };
-    let Captured {
-        sources,
-        writer,
-        front,
-    } = capture(rt, alloc, settings, opened, outlet, clock);
-    match front {
-        None => unbegun(alloc),
-        Some(front) => Outcome {
-            exit: exit_of(&sources, writer),
-            sources,
-            front: Some(front),
+    let opened = match open_sources(alloc, &settings.sources, opener) {
+        Ok(opened) => opened,
+        Err(opened) => return unbegun(opened, room),
+    };
+    match capture(rt, alloc, settings, opened, outlet, clock) {
+        Err(opened) => unbegun(opened, room),
+        Ok(captured) => Outcome {
+            exit: exit_of(&captured.sources, captured.writer),
+            sources: captured.sources,
+            front: Some(captured.front),
         },
     }
 }

@@ -1,35 +1,38 @@
 -- Words without a defect ask for a lawful mode.
-use Rattle.std.proofs.Common.{◌≡◌, ◌≤◌, ◌||◌, ℕ, List, [], ◌∷◌, Option, Some, None, Bool, Result, Ok, Err, true, false, cond, not, refl, sym, subst, length, filter, is_none, unwrap_or, codes, nat_lt, MatchResult}
+use Rattle.std.proofs.Common.{◌≡◌, ◌≤◌, ◌==◌, ◌||◌, ℕ, arith, List, [], ◌∷◌, Option, Some, None, Bool, Result, Ok, Err, true, false, cond, not, refl, sym, subst, length, filter, is_none, unwrap_or, codes, nat_lt, MatchResult}
+use Rattle.std.proofs.lemmas.Bool.Decides.{nat_tests}
+use Rattle.std.proofs.lemmas.List.Elements.{All-nil, All-cons}
+use Rattle.std.specs.List.{All, list_all}
 use Rattle.std.specs.Option.{ForSome}
 use Rattle.clap.specs.Walk.{Row}
 use Rattle.clap.specs.Simple.{App, matches_of}
-use Rattle.cap_base.specs.declared.limits.TheConstants.{MAX_SOURCES}
+use Rattle.cap_base.specs.declared.limits.TheConstants.{MAX_JOINED_FILES, MAX_READERS, MAX_SOURCES}
 use Rattle.cap_base.specs.Lawful.{IsLawfulName}
 use Rattle.capture_options.specs.Numbers.{is_name}
 use Rattle.capture_options.specs.Givens.{Text}
-use Rattle.capture_options.specs.Arguments.{are_bad_numbers, file_command, is_bad_file, is_bad_make, is_bad_trial, is_defect_of, is_refused, make_command, most_packets, most_start, only_value, packets_in, refusal_at, sources_in, start_in, trial_command, word_for, word_in}
-use Rattle.capture_options.specs.Words.{Kind, capture, check, follow, has_defect, is_defect_in, kind_of, make, mode_in, mode_of, trial}
+use Rattle.capture_options.specs.Arguments.{are_bad_numbers, file_command, is_bad_file, is_bad_make, is_bad_watch, is_defect_by, is_defect_of_join, is_defect_of_pass, is_refused, join_command, join_mode, make_command, make_mode, most_packets, most_start, only_value, packets_in, pass_command, pass_mode, readers_in, refusal_at, sources_in, start_in, trial_command, watch_command, watch_mode, word_in, words_in}
+use Rattle.capture_options.specs.Words.{Kind, capture, check, follow, has_defect, is_defect_in, join, kind_of, make, mode_in, mode_of, pass, trial, watch}
 use Rattle.capture_options.specs.inner.Answers.{IsAnswerBy}
 use Rattle.capture_options.specs.Lawful.{AcceptedWordsAreLawful, AreLawfulStreams, IsLawfulMode}
 use Rattle.capture_options.specs.declared.mode.Mode.{Mode}
 use Rattle.capture_options.specs.declared.mode.WordFault.{WordFault}
 use Rattle.capture_options.specs.declared.mode.WordFault.TheVariants as fault
-use Rattle.capture_options.proofs.Ranges.{name_here, neither, number_range}
-use Rattle.capture_options.proofs.LawfulSettings.{settings_lawful}
+use Rattle.capture_options.proofs.Ranges.{both, name_here, name_of_test, neither, not_bad, number_range}
+use Rattle.capture_options.proofs.LawfulSettings.{capture_lawful}
 
 -- ---- the modes with arguments
 
-never_both : (b bad : Bool) → not b ≡ false → b ≡ false → bad ≡ false
-never_both true bad e h = cc
-never_both false bad e h = cc
+never_both : {P : Type 0} (b : Bool) → not b ≡ false → b ≡ false → P
+never_both true e h = cc
+never_both false e h = cc
 
 -- words without a defect are refused by no one, so their values are good
-good_by : (refused bad : Bool) (m n : ℕ) → ((e : WordFault) → cond refused (refusal_at m n e) (only_value bad e) ≡ false) → bad ≡ false
-good_by true bad m n h = never_both (nat_lt m n) bad (h fault.Missing) (h fault.Unknown)
-good_by false bad m n h = h fault.Value
+good_by : (refused : Bool) (has : WordFault → Bool) (m n : ℕ) → ((e : WordFault) → cond refused (refusal_at m n e) (has e) ≡ false) → (e : WordFault) → has e ≡ false
+good_by true has m n h = never_both (nat_lt m n) (h fault.Missing) (h fault.Unknown)
+good_by false has m n h = h
 
-good : (a : App) (words : List Text) (bad : Bool) → ((e : WordFault) → is_defect_of a words bad e ≡ false) → bad ≡ false
-good a words bad h = good_by (is_refused a words) bad (length a.top.rules) (length words) h
+good : (a : App) (words : List Text) (has : List Row → WordFault → Bool) → ((e : WordFault) → is_defect_by a words has e ≡ false) → (e : WordFault) → has (matches_of a words) e ≡ false
+good a words has h = good_by (is_refused a words) (has (matches_of a words)) (length a.top.rules) (length words) h
 
 found : (P : ℕ → Type 0) (o : Option ℕ) → is_none o ≡ false → ForSome o P → P (unwrap_or o 0)
 found P None e h = cc
@@ -48,24 +51,55 @@ streams_lawful rows e =
     let packets = found (λ m. (1 ≤ m) × (m ≤ most_packets)) (packets_in three) second.1 (number_range 1 most_packets three) in
     record { bounded_start = start.1; some_sources = sources.0; few_sources = sources.1; some_packets = packets.0; few_packets = packets.1 }
 
-file_lawful : (words : List Text) → ((e : WordFault) → is_defect_of file_command words (is_bad_file words) e ≡ false) → IsLawfulName (word_for file_command words (codes "NAME"))
-file_lawful words h = name_here (word_for file_command words (codes "NAME")) (good file_command words (is_bad_file words) h)
+name_lawful : (rows : List Row) (id : Text) → not (is_name (word_in rows id)) ≡ false → IsLawfulName (word_in rows id)
+name_lawful rows id e = name_here (word_in rows id) e
 
-make_lawful : (words : List Text) → ((e : WordFault) → is_defect_of make_command words (is_bad_make words) e ≡ false) → IsLawfulMode (mode_in make words)
-make_lawful words h =
-    let rows : List Row = matches_of make_command words in
-    let n = neither (are_bad_numbers rows) (not (is_name (word_for make_command words (codes "NAME")))) (good make_command words (is_bad_make words) h) in
-    (streams_lawful rows n.0, name_here (word_for make_command words (codes "NAME")) n.1)
+make_lawful : (rows : List Row) → is_bad_make rows ≡ false → IsLawfulMode (make_mode rows)
+make_lawful rows e =
+    let n = neither (are_bad_numbers rows) (not (is_name (word_in rows (codes "NAME")))) e in
+    (streams_lawful rows n.0, name_lawful rows (codes "NAME") n.1)
 
-trial_lawful : (words : List Text) → ((e : WordFault) → is_defect_of trial_command words (is_bad_trial words) e ≡ false) → IsLawfulMode (mode_in trial words)
-trial_lawful words h = streams_lawful (matches_of trial_command words) (good trial_command words (is_bad_trial words) h)
+pass_lawful : (rows : List Row) → ((e : WordFault) → is_defect_of_pass rows e ≡ false) → IsLawfulMode (pass_mode rows)
+pass_lawful rows h =
+    let n = neither (not (is_name (word_in rows (codes "NAME")))) (not (is_name (word_in rows (codes "OUT")))) (h fault.Value) in
+    (name_lawful rows (codes "NAME") n.0, name_lawful rows (codes "OUT") n.1)
+
+watch_lawful : (rows : List Row) → is_bad_watch rows ≡ false → IsLawfulMode (watch_mode rows)
+watch_lawful rows e =
+    let text : Text = word_in rows (codes "READERS") in
+    let n = neither (is_none (readers_in text)) (not (is_name (word_in rows (codes "NAME")))) e in
+    let readers = found (λ m. (1 ≤ m) × (m ≤ MAX_READERS)) (readers_in text) n.0 (number_range 1 MAX_READERS text) in
+    (name_lawful rows (codes "NAME") n.1, readers.0, readers.1)
+
+each_name : (names : List Text) → list_all is_name names ≡ true → All IsLawfulName names
+each_name [] e = All-nil IsLawfulName
+each_name (name ∷ names) e =
+    let b = both (is_name name) (list_all is_name names) e in
+    All-cons IsLawfulName name names (name_of_test name b.0) (each_name names b.1)
+
+counted : (n : ℕ) → (n == 0) ≡ false → 1 ≤ n
+counted n e = grind (arith, nat_tests)
+
+few : (n : ℕ) → nat_lt MAX_JOINED_FILES n ≡ false → n ≤ MAX_JOINED_FILES
+few n e = grind (arith, nat_tests)
+
+join_lawful : (rows : List Row) → ((e : WordFault) → is_defect_of_join rows e ≡ false) → IsLawfulMode (join_mode rows)
+join_lawful rows h =
+    let names : List Text = words_in rows (codes "NAME") in
+    let n = neither (not (is_name (word_in rows (codes "OUT")))) (not (list_all is_name names)) (h fault.Value) in (
+      name_lawful rows (codes "OUT") n.0,
+      record { some = counted (length names) (h fault.Missing); few = few (length names) (h fault.TooMany); each = each_name names (not_bad (list_all is_name names) n.1) },
+    )
 
 lawful_in : (k : Kind) (words : List Text) → ((e : WordFault) → is_defect_in k words e ≡ false) → IsLawfulMode (mode_in k words)
-lawful_in capture words h = settings_lawful words h
-lawful_in follow words h = file_lawful words h
-lawful_in check words h = file_lawful words h
-lawful_in make words h = make_lawful words h
-lawful_in trial words h = trial_lawful words h
+lawful_in capture words h = capture_lawful words h
+lawful_in follow words h = name_lawful (matches_of file_command words) (codes "NAME") (good file_command words (λ rows. only_value (is_bad_file rows)) h fault.Value)
+lawful_in check words h = name_lawful (matches_of file_command words) (codes "NAME") (good file_command words (λ rows. only_value (is_bad_file rows)) h fault.Value)
+lawful_in make words h = make_lawful (matches_of make_command words) (good make_command words (λ rows. only_value (is_bad_make rows)) h fault.Value)
+lawful_in trial words h = streams_lawful (matches_of trial_command words) (good trial_command words (λ rows. only_value (are_bad_numbers rows)) h fault.Value)
+lawful_in pass words h = pass_lawful (matches_of pass_command words) (good pass_command words is_defect_of_pass h)
+lawful_in watch words h = watch_lawful (matches_of watch_command words) (good watch_command words (λ rows. only_value (is_bad_watch rows)) h fault.Value)
+lawful_in join words h = join_lawful (matches_of join_command words) (good join_command words is_defect_of_join h)
 
 -- ---- the list of defects
 
@@ -79,6 +113,9 @@ memory_is_none follow words = neither_way _
 memory_is_none check words = neither_way _
 memory_is_none make words = neither_way _
 memory_is_none trial words = neither_way _
+memory_is_none pass words = neither_way _
+memory_is_none watch words = neither_way _
+memory_is_none join words = neither_way _
 
 left_out : (b : Bool) (x : WordFault) (rest : List WordFault) → cond b (x ∷ rest) rest ≡ [] → (b ≡ false) × (rest ≡ [])
 left_out true x rest e = cc

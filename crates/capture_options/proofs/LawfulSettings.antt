@@ -1,18 +1,21 @@
 -- Capture words without a defect give lawful settings.
-use Rattle.std.proofs.Common.{◌≡◌, ◌≤◌, ◌+◌, ◌||◌, ℕ, List, [], ◌∷◌, Option, Some, None, Bool, true, false, cond, not, refl, arith, sym, subst, length, nat_lt, filter_map, count_by, is_none, unwrap_or, min, ◌==◌}
+use Rattle.std.proofs.Common.{◌≡◌, ◌≤◌, ◌+◌, ◌∙◌, ◌&&◌, ◌||◌, ℕ, List, [], ◌∷◌, Option, Some, None, Bool, true, false, cond, not, refl, arith, sym, subst, length, nat_lt, filter_map, count_by, is_none, unwrap_or, min, ◌==◌}
 use Rattle.std.proofs.lemmas.Bool.Decides.{nat_tests}
 use Rattle.std.proofs.lemmas.List.Elements.{All-nil, All-cons, All-head, All-tail}
 use Rattle.std.proofs.lemmas.List.Recursion.{is_count_by}
 use Rattle.std.specs.List.{All, list_any}
 use Rattle.std.specs.Option.{ForSome}
+use Rattle.cap_base.specs.declared.settings.Settings.{Settings}
 use Rattle.cap_base.specs.declared.limits.TheConstants.{MAX_CAPTURED_LEN, MAX_SOURCES, MAX_STANDING_PACKETS}
 use Rattle.cap_base.specs.Lawful.{AreLawful, AreLawfulLimits, IsGivenAbove0, IsLawfulName, IsLawfulSnap}
 use Rattle.capture_options.specs.Givens.{Text, givens}
-use Rattle.capture_options.specs.Captures.{cut_at, has_too_many, is_bad, is_defect, is_lacking, is_source, latest, limits_of, number_for, output_in, settings_of, snap_in, source_in}
+use Rattle.capture_options.specs.Captures.{capture_mode, counts_one_file, cut_at, has_too_many, is_bad, is_classic, is_classic_in_vain, is_defect, is_lacking, is_pcapng, is_source, latest, limits_of, number_for, output_in, overwrites_source, rings_in_vain, settings_of, snap_in, source_in}
 use Rattle.capture_options.specs.declared.given.Given.{Given}
 use Rattle.capture_options.specs.declared.given.Given.TheVariants as given
 use Rattle.capture_options.specs.declared.given.Setting.{Setting}
 use Rattle.capture_options.specs.declared.given.Setting.TheVariants as setting
+use Rattle.capture_options.specs.Lawful.{IsLawfulMode}
+use Rattle.capture_options.specs.declared.mode.Mode.TheVariants as mode
 use Rattle.capture_options.specs.declared.mode.WordFault.{WordFault}
 use Rattle.capture_options.specs.declared.mode.WordFault.TheVariants as fault
 use Rattle.capture_options.proofs.Ranges.{IsInRange, either, each_by, givens_range, kept_above, latest_holds, name_here, none_bad, number_above, output_here, snap_within}
@@ -78,7 +81,7 @@ parts true b c e = cc
 parts false true c e = (refl, e)
 parts false false c e = cc
 
-pub settings_lawful : (words : List Text) → ((e : WordFault) → is_defect (givens words) e ≡ false) → AreLawful (settings_of (givens words))
+settings_lawful : (words : List Text) → ((e : WordFault) → is_defect (givens words) e ≡ false) → AreLawful (settings_of (givens words))
 settings_lawful words h =
     let gs : List Given = givens words in
     let ranges : All IsInRange gs = givens_range None words in
@@ -105,3 +108,28 @@ settings_lawful words h =
       };
       snap = snap_lawful (latest snap_in gs) (snap_within gs ranges);
     }
+
+-- classic files are of one source
+one_source : (classic pcapng several : Bool) (n : ℕ) → (classic && (pcapng || several)) ≡ false → classic ≡ true → nat_lt 1 n ≡ several → 1 ≤ n → n ≡ 1
+one_source true true several n e h s some = cc
+one_source true false true n e h s some = cc
+one_source true false false n e h s some = grind (arith, nat_tests)
+one_source false pcapng several n e h s some = cc
+
+by_format : (classic : Bool) (s : Settings) → AreLawful s → (classic ≡ true → length s.sources ≡ 1) → IsLawfulMode (cond classic (mode.Classic s) (mode.Capture s))
+by_format true s lawful one = (lawful, one refl)
+by_format false s lawful one = lawful
+
+neither_conflict : (a b c d : Bool) → (a || (b || (c || d))) ≡ false → c ≡ false
+neither_conflict true b c d e = cc
+neither_conflict false true c d e = cc
+neither_conflict false false true d e = cc
+neither_conflict false false false d e = refl
+
+pub capture_lawful : (words : List Text) → ((e : WordFault) → is_defect (givens words) e ≡ false) → IsLawfulMode (capture_mode (givens words))
+capture_lawful words h =
+    let gs : List Given = givens words in
+    let lawful : AreLawful (settings_of gs) = settings_lawful words h in
+    let classic : is_classic_in_vain gs ≡ false = neither_conflict (counts_one_file gs) (rings_in_vain gs) (is_classic_in_vain gs) (overwrites_source gs) (h fault.Conflict) in
+    by_format (list_any is_classic gs) (settings_of gs) lawful
+    (λ e. sources_counted gs ∙ one_source (list_any is_classic gs) (list_any is_pcapng gs) (nat_lt 1 (count_by is_source gs)) (count_by is_source gs) classic e refl (subst (λ n. 1 ≤ n) (sources_counted gs) lawful.some_sources))

@@ -93,6 +93,40 @@ row_last_output = refl
 row_any_value : mode_of (codes "-i" ∷ codes "-w" ∷ codes "-w" ∷ codes "o" ∷ []) ≡ mode.Capture (record plain { sources = codes "-w" ∷ [] })
 row_any_value = refl
 
+row_classic : mode_of (a_to_o ++ codes "-P" ∷ []) ≡ mode.Classic plain
+row_classic = refl
+
+row_classic_clean : defects (a_to_o ++ codes "-P" ∷ []) ≡ []
+row_classic_clean = refl
+
+row_pcapng : mode_of (a_to_o ++ codes "-n" ∷ []) ≡ mode.Capture plain
+row_pcapng = refl
+
+row_both_formats : defects (a_to_o ++ codes "-P" ∷ codes "-n" ∷ []) ≡ fault.Conflict ∷ []
+row_both_formats = refl
+
+row_classic_of_two : defects (a_to_o ++ codes "-P" ∷ codes "-i" ∷ codes "b" ∷ []) ≡ fault.Conflict ∷ []
+row_classic_of_two = refl
+
+-- an output with the name of a source
+row_overwritten : defects (codes "-i" ∷ codes "a" ∷ codes "-i" ∷ codes "b" ∷ codes "-w" ∷ codes "b" ∷ []) ≡ fault.Conflict ∷ []
+row_overwritten = refl
+
+row_overwritten_joined : defects (codes "-wa" ∷ codes "-ia" ∷ []) ≡ fault.Conflict ∷ []
+row_overwritten_joined = refl
+
+-- of the outputs the last one is written
+row_overwritten_by_an_earlier : defects (codes "-i" ∷ codes "a" ∷ codes "-w" ∷ codes "a" ∷ codes "-w" ∷ codes "o" ∷ []) ≡ []
+row_overwritten_by_an_earlier = refl
+
+-- the files of a ring have names of their own
+row_ring_beside_its_source : defects (codes "-i" ∷ codes "a" ∷ codes "-w" ∷ codes "a" ∷ codes "-b" ∷ codes "packets:1" ∷ []) ≡ []
+row_ring_beside_its_source = refl
+
+-- standard input and standard output
+row_both_dashes : defects (codes "-i" ∷ codes "-" ∷ codes "-w" ∷ codes "-" ∷ []) ≡ []
+row_both_dashes = refl
+
 row_none : defects [] ≡ fault.Missing ∷ []
 row_none = refl
 
@@ -153,3 +187,55 @@ row_trial = refl
 row_trial_65 : defects (codes "trial" ∷ codes "7" ∷ codes "65" ∷ codes "100000" ∷ []) ≡ fault.Value ∷ []
 unfolding clap_on_literals
 row_trial_65 = refl
+
+row_pass : mode_of (codes "pass" ∷ codes "m" ∷ codes "o" ∷ []) ≡ mode.Pass (codes "m") (codes "o")
+unfolding clap_on_literals
+row_pass = refl
+
+row_pass_one : defects (codes "pass" ∷ codes "m" ∷ []) ≡ fault.Missing ∷ []
+unfolding clap_on_literals
+row_pass_one = refl
+
+row_pass_onto_itself : defects (codes "pass" ∷ codes "a" ∷ codes "a" ∷ []) ≡ fault.Conflict ∷ []
+unfolding clap_on_literals
+row_pass_onto_itself = refl
+
+row_pass_dashes : defects (codes "pass" ∷ codes "-" ∷ codes "-" ∷ []) ≡ []
+unfolding clap_on_literals
+row_pass_dashes = refl
+
+row_watch : mode_of (codes "watch" ∷ codes "m" ∷ codes "64" ∷ []) ≡ mode.Watch (codes "m") 64
+unfolding clap_on_literals
+row_watch = refl
+
+row_watch_65 : defects (codes "watch" ∷ codes "m" ∷ codes "65" ∷ []) ≡ fault.Value ∷ []
+unfolding clap_on_literals
+row_watch_65 = refl
+
+row_join : mode_of (codes "join" ∷ codes "j" ∷ codes "-" ∷ codes "b" ∷ codes "--" ∷ codes "-c" ∷ []) ≡ mode.JoinFiles (codes "j") (codes "-" ∷ codes "b" ∷ codes "-c" ∷ [])
+unfolding clap_on_literals
+row_join = refl
+
+row_join_clean : defects (codes "join" ∷ codes "j" ∷ codes "a" ∷ []) ≡ []
+unfolding clap_on_literals
+row_join_clean = refl
+
+row_join_nothing : defects (codes "join" ∷ codes "j" ∷ []) ≡ fault.Missing ∷ []
+unfolding clap_on_literals
+row_join_nothing = refl
+
+row_join_help : defects (codes "join" ∷ codes "j" ∷ codes "--help" ∷ []) ≡ fault.Unknown ∷ []
+unfolding clap_on_literals
+row_join_help = refl
+
+row_join_empty_name : defects (codes "join" ∷ codes "j" ∷ codes "a" ∷ [] ∷ []) ≡ fault.Value ∷ []
+unfolding clap_on_literals
+row_join_empty_name = refl
+
+row_join_onto_one : defects (codes "join" ∷ codes "a" ∷ codes "b" ∷ codes "a" ∷ []) ≡ fault.Conflict ∷ []
+unfolding clap_on_literals
+row_join_onto_one = refl
+
+row_join_dashes : defects (codes "join" ∷ codes "-" ∷ codes "-" ∷ codes "a" ∷ []) ≡ []
+unfolding clap_on_literals
+row_join_dashes = refl

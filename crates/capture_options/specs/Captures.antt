@@ -10,12 +10,14 @@ use Rattle.cap_base.specs.declared.limits.Limits.{Limits}
 use Rattle.cap_base.specs.declared.limits.StopAt.{StopAt}
 use Rattle.cap_base.specs.declared.limits.SwitchAt.{SwitchAt}
 use Rattle.cap_base.specs.declared.settings.Settings.{Settings}
-use Rattle.capture_options.specs.Numbers.{is_name}
+use Rattle.capture_options.specs.Numbers.{is_name, overwrites}
 use Rattle.capture_options.specs.Givens.{Text}
 use Rattle.capture_options.specs.declared.given.Setting.{Setting}
 use Rattle.capture_options.specs.declared.given.Setting.TheVariants as setting
 use Rattle.capture_options.specs.declared.given.Given.{Given}
 use Rattle.capture_options.specs.declared.given.Given.TheVariants as given
+use Rattle.capture_options.specs.declared.mode.Mode.{Mode}
+use Rattle.capture_options.specs.declared.mode.Mode.TheVariants as mode
 use Rattle.capture_options.specs.declared.mode.WordFault.{WordFault}
 use Rattle.capture_options.specs.declared.mode.WordFault.TheVariants as fault
 
@@ -67,6 +69,16 @@ abbrev pub is_sync : Given → Bool
 is_sync given.Sync = true
 is_sync _ = false
 
+-- `-n`
+abbrev pub is_pcapng : Given → Bool
+is_pcapng given.Pcapng = true
+is_pcapng _ = false
+
+-- `-P`
+abbrev pub is_classic : Given → Bool
+is_classic given.Classic = true
+is_classic _ = false
+
 -- ---- the settings
 
 -- the limits that `-N` and `-C` give
@@ -110,6 +122,11 @@ settings_of gs = record {
   sync = list_any is_sync gs;
   snap = cut_at (latest snap_in gs);
 }
+
+-- the settings, of classic files where `-P` is given
+abbrev pub capture_mode : List Given → Mode
+capture_mode gs = if list_any is_classic gs then mode.Classic (settings_of gs)
+    else mode.Capture (settings_of gs)
 
 -- ---- the defects
 
@@ -170,8 +187,26 @@ abbrev pub rings_in_vain : List Given → Bool
 rings_in_vain gs = list_any is_ring gs
     && (list_any (sets setting.StopFilesize) gs || is_dash (latest output_in gs))
 
+-- classic files are asked for, and also pcapng or more than one source
+abbrev pub is_classic_in_vain : List Given → Bool
+is_classic_in_vain gs = list_any is_classic gs
+    && (list_any is_pcapng gs || nat_lt 1 (count_by is_source gs))
+
+-- a source that an output of this name would overwrite
+abbrev pub is_overwritten : Text → Given → Bool
+is_overwritten output (given.Source name) = overwrites output name
+is_overwritten output _ = false
+
+abbrev pub overwrites_one : List Given → Option Text → Bool
+overwrites_one gs output = option_map_or (λ name. list_any (is_overwritten name) gs) output false
+
+-- the output, which is one file without a `-b`, would overwrite a source
+abbrev pub overwrites_source : List Given → Bool
+overwrites_source gs = not (list_any is_ring gs) && overwrites_one gs (latest output_in gs)
+
 abbrev pub is_conflict : List Given → Bool
-is_conflict gs = counts_one_file gs || rings_in_vain gs
+is_conflict gs = counts_one_file gs
+    || (rings_in_vain gs || (is_classic_in_vain gs || overwrites_source gs))
 
 abbrev pub has_too_many : List Given → Bool
 has_too_many gs = nat_lt MAX_SOURCES (count_by is_source gs)

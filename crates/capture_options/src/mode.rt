@@ -1,4 +1,4 @@
-use cap_base::{Name, NoMemory, Settings};
+use cap_base::{Name, Names, NoMemory, Settings};
 use std::alloc::{AllocError, AllocFailed};
 
 /// What the words ask for.
@@ -6,6 +6,8 @@ use std::alloc::{AllocError, AllocFailed};
 pub enum Mode {
     /// A capture with these settings: durations are in nanoseconds, sizes of files in bytes.
     Capture(Settings),
+    /// The same of one source, into classic pcap files.
+    Classic(Settings),
     /// Reads a capture's messages from this source, and the files that they name.
     Follow(Name),
     /// Checks that the file of this name is one that this program writes.
@@ -30,6 +32,27 @@ pub enum Mode {
         /// How many packets the streams have together, from 1 to 1,000,000.
         packets: u64,
     },
+    /// Copies a pcapng source into one file, with the blocks that are passed on.
+    Pass {
+        /// The source.
+        name: Name,
+        /// The file that is written.
+        out: Name,
+    },
+    /// Follows a capture, and publishes its totals to threads that read them meanwhile.
+    Watch {
+        /// The source of the capture's messages.
+        name: Name,
+        /// How many threads read the totals, from 1 to 64.
+        readers: u32,
+    },
+    /// Makes one output file of several, as of those of a ring.
+    JoinFiles {
+        /// The file that is written.
+        out: Name,
+        /// The files that are joined, from 1 to 1,000, in order.
+        names: Names,
+    },
 }
 
 /// Why words are refused. Each but `NoMemory` is a defect that the words have; where they have several, any one is
@@ -44,10 +67,12 @@ pub enum WordFault {
     /// A value breaks its spelling or its range, wherever it stands, or the kind of `-a` or `-b` before its `:` is
     /// unknown.
     Value,
-    /// `-b files:` or `-a files:` without a `-b` that begins a next file; `-a filesize:` with any `-b`; or `-w -`, which
-    /// is standard output, with any `-b`.
+    /// `-b files:` or `-a files:` without a `-b` that begins a next file; `-a filesize:` with any `-b`; `-w -`, which is
+    /// standard output, with any `-b`; `-P` with `-n` or with more than one `-i`; or an output that would overwrite what is
+    /// read, since it has the name of an input: without `-b` the last `-w` that of an `-i`, OUT that of NAME in `pass`, or of
+    /// a file that is joined. `-` is no such name, as it stands for standard input and standard output.
     Conflict,
-    /// More than 64 `-i`.
+    /// More than 64 `-i`, or more than 1,000 files that are joined.
     TooMany,
     /// Memory ran out.
     NoMemory,

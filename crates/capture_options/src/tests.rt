@@ -1,4 +1,5 @@
 use crate::{Mode, WordFault, accepted_words_are_lawful, read_words};
+use cap_base::{Name, Names};
 use std::alloc::{AllocError, Global};
 use std::test::Fail;
 
@@ -19,7 +20,7 @@ fn refused_words(rt: HostRuntime) -> Result<(), Fail> {
         ("-w o", WordFault::Missing),
         ("-ia -wo -nq", WordFault::Unknown),
         ("-i a -w o x", WordFault::Unknown),
-        ("-i a -w o -P", WordFault::Unknown),
+        ("-i a -w o -Px", WordFault::Unknown),
         ("-i a -w o --help", WordFault::Unknown),
         ("-i a -w o -h", WordFault::Unknown),
         ("-i a -w o --version", WordFault::Unknown),
@@ -36,6 +37,11 @@ fn refused_words(rt: HostRuntime) -> Result<(), Fail> {
         ("-i a -w o -a files:2", WordFault::Conflict),
         ("-i a -w o -a filesize:1 -b packets:1", WordFault::Conflict),
         ("-i a -w - -b packets:1", WordFault::Conflict),
+        ("-i a -w o -P -n", WordFault::Conflict),
+        ("-i a -i b -w o -P", WordFault::Conflict),
+        ("-i a -w a", WordFault::Conflict),
+        ("-i a -ib -w o -w b --sync", WordFault::Conflict),
+        ("-i ./a -w ./a -P", WordFault::Conflict),
         ("follow", WordFault::Missing),
         ("follow a b", WordFault::Unknown),
         ("follow --help b", WordFault::Unknown),
@@ -44,6 +50,16 @@ fn refused_words(rt: HostRuntime) -> Result<(), Fail> {
         ("make 1000000000000000001 2 3 m", WordFault::Value),
         ("make 1 2 1000001 m", WordFault::Value),
         ("trial 7 65 1", WordFault::Value),
+        ("pass m", WordFault::Missing),
+        ("pass m o p", WordFault::Unknown),
+        ("pass a a", WordFault::Conflict),
+        ("watch m", WordFault::Missing),
+        ("watch m 0", WordFault::Value),
+        ("watch m 65", WordFault::Value),
+        ("join j", WordFault::Missing),
+        ("join j --help", WordFault::Unknown),
+        ("join a a b", WordFault::Conflict),
+        ("join a b a", WordFault::Conflict),
     ];
     for (line, want) in rows {
         let found = mode_of(rt.alloc(), line);
@@ -83,6 +99,7 @@ fn settings_of_a_capture(rt: HostRuntime) -> Result<(), Fail> {
 fn spelled(alloc: Global, mode: &Mode) -> Result<String, AllocError> {
     match mode {
         Mode::Capture(_) => format!(in alloc; "capture"),
+        Mode::Classic(_) => format!(in alloc; "classic"),
         Mode::Follow(name) => format!(in alloc; "follow {}", name.as_text()),
         Mode::Check(name) => format!(in alloc; "check {}", name.as_text()),
         Mode::Make {
@@ -96,7 +113,22 @@ fn spelled(alloc: Global, mode: &Mode) -> Result<String, AllocError> {
             sources,
             packets,
         } => format!(in alloc; "trial {start} {sources} {packets}"),
+        Mode::Pass { name, out } => {
+            format!(in alloc; "pass {} {}", name.as_text(), out.as_text())
+        }
+        Mode::Watch { name, readers } => format!(in alloc; "watch {} {readers}", name.as_text()),
+        Mode::JoinFiles { out, names } => spelled_join(alloc, out, names),
     }
+}
+
+/// The words of `join`.
+fn spelled_join(alloc: Global, out: &Name, names: &Names) -> Result<String, AllocError> {
+    let mut text = format!(in alloc; "join {}", out.as_text())?;
+    for name in names.as_slice() {
+        text.push_str(" ")?;
+        text.push_str(name.as_text())?;
+    }
+    Ok(text)
 }
 
 #[test]
@@ -107,6 +139,17 @@ fn words_of_other_modes(rt: HostRuntime) -> Result<(), Fail> {
         ("check -- -x", "check -x"),
         ("make 01 2 3 m", "make 1 2 3 m"),
         ("trial 7 8 100000", "trial 7 8 100000"),
+        ("-i a -w o -P", "classic"),
+        ("-i a -w o -n", "capture"),
+        ("-i a -w a -w o", "capture"),
+        ("-i a -w a -b packets:1", "capture"),
+        ("-i - -w -", "capture"),
+        ("pass m o", "pass m o"),
+        ("pass - -", "pass - -"),
+        ("watch m 064", "watch m 64"),
+        ("join j a", "join j a"),
+        ("join j - b -- -c", "join j - b -c"),
+        ("join - - a", "join - - a"),
     ];
     for (line, want) in rows {
         let mode = mode_of(rt.alloc(), line)?;
@@ -151,6 +194,33 @@ fn many_sources(rt: HostRuntime) -> Result<(), Fail> {
     ];
     for (sources, want) in rows {
         assert_eq!(rt; source_count(rt.alloc(), sources), want, "at {sources}");
+    }
+    Ok(())
+}
+
+/// How many files words with so many names ask to join.
+fn joined_count(alloc: Global, names: usize) -> Result<usize, WordFault> {
+    let mut words = Vec::new(alloc);
+    push_words(alloc, &mut words, "join", 1)?;
+    push_words(alloc, &mut words, "j", 1)?;
+    push_words(alloc, &mut words, "a", names)?;
+    let mode = read_words(alloc, &words)?;
+    match &mode {
+        Mode::JoinFiles { out: _, names } => Ok(names.len()),
+        _ => Ok(0),
+    }
+}
+
+#[test]
+fn many_joined_files(rt: HostRuntime) -> Result<(), Fail> {
+    let rows = [
+        (0, Err(WordFault::Missing)),
+        (1, Ok(1)),
+        (1000, Ok(1000)),
+        (1001, Err(WordFault::TooMany)),
+    ];
+    for (names, want) in rows {
+        assert_eq!(rt; joined_count(rt.alloc(), names), want, "at {names}");
     }
     Ok(())
 }

@@ -31,14 +31,14 @@ use Rattle.cap_outside.specs.Told.{Tells}
 use Rattle.packet_queue.specs.Batches.{numbered}
 use Rattle.packet_queue.specs.Ends.{joined_numbers}
 use Rattle.source_reader.specs.Reading.{events, ending}
-use Rattle.source_thread.specs.declared.ended.Opened.{Opened}
+use Rattle.cap_outside.specs.declared.opened.Opened.{Opened}
 use Rattle.source_thread.specs.declared.ended.Ended.{Ended}
 use Rattle.source_thread.specs.Told.{is_flushed, SourceFacts, IsCauseOf, Told, end_entry}
 use Rattle.capture_core.specs.Views.{packet_events}
 use Rattle.capture_threads.specs.Captures.{ends_worn, is_worn_ending}
 use Rattle.capture_run.specs.Sources.{offered, packets_of, written_of, SourcesAre}
 use Rattle.capture_run.specs.Capture.{is_worn}
-use Rattle.capture_run.specs.Exits.{ends_early, ends_starved, is_early_ending, is_starved_ending, exit_of, IsExit}
+use Rattle.capture_run.specs.Exits.{ends_early, ends_starved, is_early_ending, is_starved_ending, exit_of}
 use Rattle.capture_run.specs.Completes.{Contents, all_packets, AllWritten}
 use Rattle.capture_run.specs.Command.{is_missing}
 use Rattle.capture_run.specs.Laws.{AllAreWritten}
@@ -199,19 +199,13 @@ counts_length (p ∷ ps) = let a : sum_by count_one (p ∷ ps) ≡ 1 + sum_by co
 abbrev EndsWell : {S : Type 0} → List (Ended S) → Type 0
 EndsWell es = (list_any ends_early es ≡ false) × (list_any ends_starved es ≡ false) × (list_any ends_worn es ≡ false)
 
-not_both : (k : ℕ) → k ≡ 5 → k ≡ 0 → ⊥
-not_both k a b = omega arith
-
 pub all_written : (S : Type 0) → AllAreWritten S
 all_written S facts content s opened sources w h readings contents made exit opens0 opens1 files0 files1 says0 says1 by_words told o done n all zero_exit = each_written where
   none_missing : count_by is_missing opened ≡ 0
   none_missing = there facts content s opened sources w h contents made exit opens0 opens1 files0 files1 says0 says1 by_words told n
 
   memory : w.no_memory || list_any ends_starved sources ≡ false
-  memory = go by_words.exit_is where
-    go : IsExit sources w exit → w.no_memory || list_any ends_starved sources ≡ false
-    go (inl e) = memory_none w.file_fault w.say_fault (w.no_memory || list_any ends_starved sources) (is_worn sources w) (list_any ends_early sources) (sym e ∙ zero_exit)
-    go (inr e) = absurd (not_both exit e.0 zero_exit)
+  memory = memory_none w.file_fault w.say_fault (w.no_memory || list_any ends_starved sources) (is_worn sources w) (list_any ends_early sources) (sym by_words.exit_is ∙ zero_exit)
 
   none_stop : has_stop h ≡ false
   none_stop = stops_none s h by_words.legal o.each all.no_stop (sym by_words.writer_is.file_fault ∙ file facts content s opened sources w h contents made exit opens0 opens1 files0 files1 says0 says1 by_words told n)

@@ -14,16 +14,16 @@ use Rattle.cap_base.specs.declared.endings.How.TheVariants as hows
 use Rattle.cap_base.specs.declared.entries.Entry.{Entry}
 use Rattle.cap_base.specs.declared.limits.TheConstants.{MAX_INTERFACES}
 use Rattle.cap_base.specs.declared.settings.Settings.{Settings}
-use Rattle.cap_outside.specs.Causes.{Rose, one_higher}
+use Rattle.cap_outside.specs.Causes.{one_higher, one_higher}
 use Rattle.cap_outside.specs.Told.{Tells}
 use Rattle.source_reader.specs.Reading.{ending}
 use Rattle.source_reader.proofs.Wholes.{bad_stays}
-use Rattle.source_thread.specs.declared.ended.Opened.{Opened}
+use Rattle.cap_outside.specs.declared.opened.Opened.{Opened}
 use Rattle.source_thread.specs.declared.ended.Ended.{Ended}
 use Rattle.source_thread.specs.Told.{is_refused, SourceFacts, IsCauseOf, Told, EndsAtRefusedJoin, end_entry}
 use Rattle.writer_thread.specs.declared.writer_end.WriterEnd.{WriterEnd}
 use Rattle.capture_run.specs.Capture.{is_worn}
-use Rattle.capture_run.specs.Exits.{ends_early, is_early_ending, ends_starved, exit_of, IsExit}
+use Rattle.capture_run.specs.Exits.{ends_early, is_early_ending, ends_starved, exit_of}
 use Rattle.capture_run.specs.Completes.{interfaces_in, interfaces_of, Contents, IsWhole, AreWhole, NothingFails}
 use Rattle.capture_run.specs.Command.{is_missing, failed_reads, AreContents}
 use Rattle.capture_run.specs.Laws.{CaptureCompletes, IsCapturedByWords}
@@ -31,8 +31,8 @@ use Rattle.capture_run.proofs.Weighed.{total}
 use Rattle.capture_run.proofs.Contents.{HasContent, along_sources, few_total, no_missing}
 use Rattle.capture_run.proofs.Joins.{is_join, few_joins, many}
 
-pub not_rose : (a b : ℕ) → b ≡ a → a < 2 ^ 64 - 1 → Rose a b → ⊥
-not_rose a b q lt r = let z : min (a + 1) (2 ^ 64 - 1) ≤ b = r in omega arith
+pub not_rose : (a b : ℕ) → b ≡ a → a < 2 ^ 64 - 1 → b ≡ one_higher a → ⊥
+not_rose a b q lt r = let z : b ≡ min (a + 1) (2 ^ 64 - 1) = r in omega arith
 
 -- ---- one source
 
@@ -101,10 +101,7 @@ module _ {S : Type 0} (facts : Option S → SourceFacts) (content : List ℕ →
         or_from (ends_early a) (list_any ends_early es) (not_early k c.0 s.snap o.source_is.ran.ran.b o.l c.1 a.how (facts x.source) (facts a.source) (own k h) o.told o.parts o.left o.opened o.no_faults (omega arith) wh.0 (numbered k)) (ih wh.1 (omega arith))
 
   pub exit_is : (exit ≡ 0) ⊎ (exit ≡ 5)
-  exit_is = go by_words.exit_is where
-    go : IsExit sources w exit → (exit ≡ 0) ⊎ (exit ≡ 5)
-    go (inr e) = inr e.0
-    go (inl e) = subst (λ (z : ℕ). (z ≡ 0) ⊎ (z ≡ 5)) (sym e) (exits w.file_fault w.say_fault (w.no_memory || list_any ends_starved sources) (is_worn sources w) (list_any ends_early sources) file say fresh none_early)
+  exit_is = subst (λ (z : ℕ). (z ≡ 0) ⊎ (z ≡ 5)) (sym by_words.exit_is) (exits w.file_fault w.say_fault (w.no_memory || list_any ends_starved sources) (is_worn sources w) (list_any ends_early sources) file say fresh none_early)
 
 pub completes : (S : Type 0) → CaptureCompletes S
 completes S facts content s opened sources w h contents made exit opens0 opens1 files0 files1 says0 says1 by_words told n = exit_is facts content s opened sources w h contents made exit opens0 opens1 files0 files1 says0 says1 by_words told n

@@ -9,14 +9,14 @@ use Rattle.cap_base.specs.declared.entries.Entry.{Entry}
 use Rattle.cap_base.specs.declared.entries.Why.TheVariants.{FileFault, SyncFault, NoMemory}
 use Rattle.cap_base.specs.declared.packet.Packet.{Packet}
 use Rattle.cap_base.specs.declared.settings.Settings.{Settings}
-use Rattle.cap_outside.specs.Causes.{Rose}
+use Rattle.cap_outside.specs.Causes.{one_higher}
 use Rattle.cap_outside.specs.Told.{Leads}
 use Rattle.turn_cell.specs.Passes.{history, turns_made}
 use Rattle.capture_desk.specs.Laws.{packets_taken}
 use Rattle.capture_core.specs.Writers.{writers_past}
 use Rattle.capture_core.specs.Made.{FilesHold}
 use Rattle.capture_core.specs.Headline.{Headline}
-use Rattle.source_thread.specs.declared.ended.Opened.{Opened}
+use Rattle.cap_outside.specs.declared.opened.Opened.{Opened}
 use Rattle.source_thread.specs.declared.ended.Ended.{Ended}
 use Rattle.source_thread.specs.Told.{SourceFacts}
 use Rattle.writer_thread.specs.declared.writer_end.WriterEnd.{WriterEnd}
@@ -29,14 +29,14 @@ use Rattle.capture_run.specs.Sources.{SourcesAre}
 pub record WriterIs (w : WriterEnd) (mine : List Entry) (files0 files1 says0 says1 : ℕ) : Type 0 where
   -- it says that a call on files failed exactly where it made a Stop for that
   pub file_fault : w.file_fault ≡ list_any (stops_for FileFault) mine
-  -- then the count of such calls rose
-  pub file_cause : w.file_fault ≡ true → Rose files0 files1
+  -- then the count of such calls is one higher: no call on files was made behind the one that failed
+  pub file_cause : w.file_fault ≡ true → files1 ≡ one_higher files0
   -- and else none failed, so none was passed over
   pub file_seen : w.file_fault ≡ false → w.worn ≡ false → files1 ≡ files0
   -- it says that a message failed exactly where it made a Stop for that
   pub say_fault : w.say_fault ≡ list_any (stops_for SyncFault) mine
-  -- then the count of failed messages rose
-  pub say_cause : w.say_fault ≡ true → Rose says0 says1
+  -- then the count of failed messages is one higher: none was said behind the one that failed
+  pub say_cause : w.say_fault ≡ true → says1 ≡ one_higher says0
   -- and else none failed, so none was passed over
   pub say_seen : w.say_fault ≡ false → w.worn ≡ false → says1 ≡ says0
   -- it says that memory was wanting exactly where it made a Stop for that

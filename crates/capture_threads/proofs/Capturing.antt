@@ -11,7 +11,7 @@ use Rattle.packet_queue.specs.Calls.{entries_of, Admits}
 use Rattle.packet_queue.specs.Ends.{QueueCell, QueuePass, IsDrainOf, MakesDrain, mine, port_source, drain_pass}
 use Rattle.packet_queue.specs.declared.drain.Drain.{Drain}
 use Rattle.packet_queue.specs.declared.queue.Queue.{Queue}
-use Rattle.source_thread.specs.declared.ended.Opened.{Opened}
+use Rattle.cap_outside.specs.declared.opened.Opened.{Opened}
 use Rattle.source_thread.specs.declared.ended.Ended.{Ended}
 use Rattle.capture_threads.specs.declared.place.Place.{Place}
 use Rattle.capture_threads.specs.declared.place.Place.TheVariants.{Ready, Running, Over}

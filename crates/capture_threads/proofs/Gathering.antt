@@ -1,8 +1,7 @@
 -- Places before the threads and after them, and the passes in one.
-use Rattle.std.proofs.Common.{◌≡◌, ℕ, ◌+◌, ◌≤◌, ◌↔◌, Bool, true, false, ◌||◌, List, [], ◌∷◌, ◌++◌, length, min, max, All, refl, sym, ap, ◌∙◌, subst, append_assoc, arith, Option, ⊎_elim, inl}
+use Rattle.std.proofs.Common.{◌≡◌, ℕ, ◌+◌, ◌≤◌, ◌↔◌, Bool, true, false, ◌||◌, List, [], ◌∷◌, ◌++◌, length, min, max, refl, sym, ap, ◌∙◌, subst, append_assoc, arith, Option, ⊎_elim, inl}
 use Rattle.std.specs.List.{list_any}
 use Rattle.std.proofs.lemmas.List.{append-nil}
-use Rattle.std.proofs.lemmas.List.Elements.{All-drop}
 use Rattle.std.proofs.lemmas.Bool.{cases_lt}
 use Rattle.turn_cell.specs.Passes.{IsPassOf, IsJoined, Adjoin, low, high, made, is_worn}
 use Rattle.cap_base.specs.Callers.{own}
@@ -10,41 +9,15 @@ use Rattle.cap_base.specs.declared.entries.Entry.{Entry}
 use Rattle.cap_base.specs.declared.endings.How.{How}
 use Rattle.cap_base.specs.declared.endings.How.TheVariants as how
 use Rattle.packet_queue.specs.Ends.{QueueCell, QueuePass, mine}
-use Rattle.source_thread.specs.declared.ended.Opened.{Opened}
+use Rattle.cap_outside.specs.declared.opened.Opened.{Opened}
 use Rattle.source_thread.specs.declared.ended.Ended.{Ended}
 use Rattle.capture_threads.specs.declared.place.Place.{Place}
 use Rattle.capture_threads.specs.declared.place.Place.TheVariants.{Ready, Running, Over}
 use Rattle.source_thread.specs.Told.{SourceFacts}
 use Rattle.source_thread.specs.Sources.{WasRead, EachWasRead}
-use Rattle.capture_threads.specs.Places.{IsPlaced, ArePlaced, IsRun, AreRun, HasRun}
+use Rattle.capture_threads.specs.Places.{IsRun, AreRun, HasRun}
 use Rattle.capture_threads.specs.inner.Places.{IsGathered, CanGather, Gathers}
 use Rattle.capture_threads.specs.Captures.{ends_worn, is_worn_ending}
-
--- the first sources have places, and the others wait
-pub record Placing {S : Type 0} (c : QueueCell) (all waiting : List (Opened S)) (places : List (Place S)) : Type 0 where
-  pub front : List (Opened S)
-  pub parts : all ≡ front ++ waiting
-  pub placed : ArePlaced c 0 front places
-
-pub none_placed : {S : Type 0} (c : QueueCell) (all waiting : List (Opened S)) (places : List (Place S)) → waiting ≡ all → places ≡ [] → Placing c all waiting places
-none_placed {S} c all waiting places e none = record { front = []; parts = sym e; placed = subst (λ (ps : List (Place S)). ArePlaced c 0 [] ps) (sym none) tt }
-
-are_placed_more : {S : Type 0} (c : QueueCell) (n : ℕ) (xs : List (Opened S)) (ps : List (Place S)) (x : Opened S) (p : Place S) → ArePlaced c n xs ps → IsPlaced c (n + length ps) x p → ArePlaced c n (xs ++ x ∷ []) (ps ++ p ∷ [])
-are_placed_more c n [] [] x p a i = (subst (λ (m : ℕ). IsPlaced c m x p) (omega arith) i, tt)
-are_placed_more c n (y ∷ xs) (q ∷ ps) x p a i = (a.0, are_placed_more c (n + 1) xs ps x p a.1 (subst (λ (m : ℕ). IsPlaced c m x p) (let e : n + (1 + length ps) ≡ (n + 1) + length ps = omega arith in let f : length (q ∷ ps) ≡ 1 + length ps = omega arith in omega arith) i))
-are_placed_more c n [] (q ∷ ps) x p a i = absurd a
-are_placed_more c n (y ∷ xs) [] x p a i = absurd a
-
--- one more
-pub placed_more : {S : Type 0} (c : QueueCell) (all before waiting : List (Opened S)) (places : List (Place S)) (n : ℕ) (x : Opened S) (p : Place S) → before ≡ x ∷ waiting → Placing c all before places → length places ≡ n → IsPlaced c n x p → (now : List (Place S)) → now ≡ places ++ p ∷ [] → Placing c all waiting now
-placed_more {S} c all before waiting places n x p e o len i now is = record {
-  front = o.front ++ x ∷ [];
-  parts = o.parts ∙ ap (λ (z : List (Opened S)). o.front ++ z) e ∙ sym (append_assoc o.front (x ∷ []) waiting);
-  placed = subst (λ (ps : List (Place S)). ArePlaced c 0 (o.front ++ x ∷ []) ps) (sym is) (are_placed_more c 0 o.front places x p o.placed (subst (λ (m : ℕ). IsPlaced c m x p) (sym (let z : 0 + length places ≡ length places = omega arith in z ∙ len)) i));
-}
-
-pub first_holds : {S : Type 0} (P : Opened S → Type 0) (before waiting : List (Opened S)) (x : Opened S) → before ≡ x ∷ waiting → All P before → P x × All P waiting
-first_holds {S} P before waiting x e a = let b = subst (λ (z : List (Opened S)). All P z) e a in (b 0 x (omega arith), All-drop P 1 (x ∷ waiting) b)
 
 -- ---- the first of several places
 

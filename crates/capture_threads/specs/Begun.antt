@@ -4,7 +4,7 @@ use Rattle.cap_base.specs.declared.limits.Limits.{Limits}
 use Rattle.turn_cell.specs.Passes.{start, callers, turns}
 use Rattle.packet_queue.specs.Queue.{limits_of, sources_of}
 use Rattle.packet_queue.specs.Ends.{IsDrainOf, drain_pass, mine}
-use Rattle.source_thread.specs.declared.ended.Opened.{Opened}
+use Rattle.cap_outside.specs.declared.opened.Opened.{Opened}
 use Rattle.capture_threads.specs.declared.capture.Begun.{Begun}
 use Rattle.capture_threads.specs.Places.{ArePlaced}
 

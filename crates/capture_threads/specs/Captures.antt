@@ -12,7 +12,7 @@ use Rattle.turn_cell.specs.Passes.{history, turns_made}
 use Rattle.packet_queue.specs.declared.queue.Queue.{Queue}
 use Rattle.packet_queue.specs.declared.calls.Call.{Call}
 use Rattle.packet_queue.specs.declared.calls.Reply.{Reply}
-use Rattle.source_thread.specs.declared.ended.Opened.{Opened}
+use Rattle.cap_outside.specs.declared.opened.Opened.{Opened}
 use Rattle.source_thread.specs.declared.ended.Ended.{Ended}
 use Rattle.source_thread.specs.Told.{SourceFacts}
 use Rattle.source_thread.specs.Sources.{EachWasRead}

@@ -4,7 +4,7 @@ use Rattle.cap_base.specs.declared.endings.How.TheVariants as how
 use Rattle.turn_cell.specs.Passes.{IsPassOf, low, high, is_worn}
 use Rattle.packet_queue.specs.Ends.{QueueCell, QueuePass, IsPortOf, mine, port_pass, port_source}
 use Rattle.packet_queue.specs.declared.port.Port.{Port}
-use Rattle.source_thread.specs.declared.ended.Opened.{Opened}
+use Rattle.cap_outside.specs.declared.opened.Opened.{Opened}
 use Rattle.source_thread.specs.declared.ended.Ended.{Ended}
 use Rattle.capture_threads.specs.declared.place.Place.{Place}
 use Rattle.capture_threads.specs.declared.place.Place.TheVariants.{Ready, Over}

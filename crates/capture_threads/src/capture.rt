@@ -1,23 +1,24 @@
 //! A capture's threads, before their first turn and behind their last one.
-ghost use Rattle.std.specs.Prelude.{◌≡◌, ◌≤◌, ◌+◌, ◌^◌, [], length, All, List, IfOk, vec_capacity};
+ghost use Rattle.std.specs.Prelude.{◌≡◌, ◌≤◌, ◌+◌, ◌^◌, [], length, All, List, IfOk, IfErr, vec_capacity};
 ghost use Rattle.turn_cell.specs.Passes.{IsPassOf, low, high, start, callers, turns, history, is_worn};
 ghost use Rattle.cap_base.specs.declared.limits.TheConstants.{MAX_STANDING_PACKETS, MAX_SOURCES, MAX_NAME_LEN};
 ghost use Rattle.cap_base.specs.Callers.{own};
 ghost use Rattle.packet_queue.specs.Queue.{limits_of, sources_of};
 ghost use Rattle.packet_queue.specs.Ends.{mine};
-ghost use Rattle.source_thread.specs.declared.ended.Opened.{Opened as OpenedSource};
+ghost use Rattle.cap_outside.specs.declared.opened.Opened.{Opened as OpenedSource};
 ghost use Rattle.source_thread.specs.Sources.{facts_of};
 ghost use Rattle.capture_threads.specs.Begun.{IsBegun};
 ghost use Rattle.capture_threads.specs.Captures.{IsCaptured};
 ghost use Rattle.capture_threads.specs.Places.{ArePlaced, AreRun};
+ghost use Rattle.capture_threads.specs.inner.Prepared.{IsPrepared};
 
 use crate::place::Place;
-use crate::sources::{gather, place_sources, read_each};
+use crate::sources::{gather, make_ports, place_sources, read_each};
 use cap_base::{Limits, NoMemory};
-use cap_outside::Source;
+use cap_outside::{Opened, Source};
 use pacing::UnderWay;
-use packet_queue::{Drain, Queue};
-use source_thread::{Ended, Opened};
+use packet_queue::{Drain, Port, Queue};
+use source_thread::Ended;
 use std::alloc::Global;
 use std::sync::Wait;
 use std::thread::Threads;
@@ -39,30 +40,72 @@ pub struct Begun<S> {
     pub drain: Drain,
 }
 
+/// What so many sources need before their first turn.
+#[derive(Drop)]
+struct Prepared<S> {
+    /// The cell of the queue.
+    cell: Cell<Queue>,
+    /// A port for each source, in order.
+    ports: Vec<Port>,
+    /// Room for their places.
+    places: Vec<Place<S>>,
+    /// Room for the sources that end.
+    ended: Vec<Ended<S>>,
+    /// The writer's end of the queue.
+    drain: Drain,
+}
+
+/// Takes all memory that so many sources need before their first turn.
+fn prepare<S: Source>(alloc: Global, limits: Limits, sources: u8) -> Result<Prepared<S>, NoMemory>
+    requires limits { (1 ≤ limits.packets) × (limits.packets ≤ MAX_STANDING_PACKETS) }
+    requires sources { (1 ≤ sources) × (sources ≤ MAX_SOURCES) }
+    ensures { IfOk result (IsPrepared limits sources) }
+{
+    let ended = Vec::with_capacity(alloc, usize::from(sources))?;
+    let places = Vec::with_capacity(alloc, usize::from(sources))?;
+    let queue = Queue::new(alloc, limits, sources)?;
+    let (cell, pass) = Cell::new(alloc, queue, u32::from(sources) + 1, MOST_TURNS)?;
+    let (ports, rest) = make_ports(alloc, &cell, pass, sources)?;
+    Ok(Prepared {
+        cell,
+        ports,
+        places,
+        ended,
+        drain: Drain::new(rest),
+    })
+}
+
 /// Takes all memory that a capture needs before its first turn. A source's thread takes its own.
 ///
-/// There are 1 to 64 sources, whose names have at most 4,096 bytes, and 1 to 16,384 packets may stand in the queue.
-/// `NoMemory` is free; then the sources are dropped.
+/// There are 1 to 64 sources, whose names have at most 4,096 bytes, and 1 to 16,384 packets may stand in the queue. Where
+/// memory is wanting, which is free, the sources come back as they were.
 pub fn begin<S: Source>(
     alloc: Global,
     limits: Limits,
     opened: Vec<Opened<S>>,
-) -> Result<Begun<S>, NoMemory>
+) -> Result<Begun<S>, Vec<Opened<S>>>
     requires limits { (1 ≤ limits.packets) × (limits.packets ≤ MAX_STANDING_PACKETS) }
     requires sources { (1 ≤ length opened.items) × (length opened.items ≤ MAX_SOURCES) }
     requires names { All (λ (o : OpenedSource S). length o.name ≤ MAX_NAME_LEN) opened.items }
-    ensures { IfOk result (λ b. IsBegun limits opened.items b) }
+    ensures begun { IfOk result (IsBegun limits opened.items) }
+    ensures back { IfErr result (λ back. back.items ≡ opened.items) }
 {
-    let sources = opened.len() as u8;
-    let ended = Vec::with_capacity(alloc, opened.len())?;
-    let queue = Queue::new(alloc, limits, sources)?;
-    let (cell, pass) = Cell::new(alloc, queue, u32::from(sources) + 1, MOST_TURNS)?;
-    let (places, rest) = place_sources(alloc, &cell, pass, opened)?;
+    let Ok(prepared) = prepare(alloc, limits, opened.len() as u8) else {
+        return Err(opened);
+    };
+    let Prepared {
+        cell,
+        ports,
+        places,
+        ended,
+        drain,
+    } = prepared;
+    let places = place_sources(ports, opened, places);
     Ok(Begun {
         cell,
         places,
         ended,
-        drain: Drain::new(rest),
+        drain,
     })
 }
 

@@ -1,5 +1,6 @@
+use cap_outside::Opened;
 use packet_queue::{Port, Queue};
-use source_thread::{Ended, Opened};
+use source_thread::Ended;
 use turn_cell::Pass;
 
 /// A source's place among the threads.

@@ -1,81 +1,98 @@
 //! All sources at once, each in a thread of its own.
-ghost use Rattle.std.specs.Prelude.{◌≡◌, ◌≤◌, ◌<◌, ◌+◌, [], ◌++◌, length, All, IfOk, List, ℕ, vec_len, vec_capacity};
+ghost use Rattle.std.specs.Prelude.{◌≡◌, ◌≤◌, ◌<◌, ◌+◌, [], length, IfOk, ℕ, vec_capacity};
 ghost use Rattle.std.specs.Thread.{IsSync};
 ghost use Rattle.turn_cell.specs.Passes.{IsPassOf, Has, low, high, made, start};
-ghost use Rattle.cap_base.specs.declared.limits.TheConstants.{MAX_SOURCES, MAX_NAME_LEN};
+ghost use Rattle.cap_base.specs.declared.limits.TheConstants.{MAX_SOURCES};
 ghost use Rattle.cap_base.specs.Callers.{own};
 ghost use Rattle.packet_queue.specs.Queue.{sources_of};
-ghost use Rattle.source_thread.specs.declared.ended.Opened.{Opened as OpenedSource};
 ghost use Rattle.source_thread.specs.Sources.{facts_of};
-ghost use Rattle.capture_threads.specs.Places.{IsPlaced, ArePlaced};
-ghost use Rattle.capture_threads.specs.inner.Places.{IsReady, IsOver, AreReady, AreOver, CanGather, Gathers};
+ghost use Rattle.capture_threads.specs.inner.Places.{IsReady, IsOver, AreReady, AreOver, CanGather, Gathers, IsFreshPort, AreFreshPorts, paired};
 
 use crate::place::Place;
 use cap_base::NoMemory;
-use cap_outside::Source;
+use cap_outside::{Opened, Source};
 use pacing::{Pace, UnderWay};
 use packet_queue::{Port, Queue};
-use source_thread::{Ended, Opened, read_paced};
+use source_thread::{Ended, read_paced};
 use std::alloc::Global;
 use std::mem;
 use std::sync::Wait;
 use std::thread::{Threads, join_mut};
 use turn_cell::{Cell, Pass};
 
-/// The place of the next source: the least number is split off the pass, and its port made.
-fn place_next<S: Source>(
+/// The port of the next source: the least number is split off the pass.
+fn next_port(
     alloc: Global,
     cell: &Cell<Queue>,
     pass: Pass<Queue>,
     number: u8,
-    opened: Opened<S>,
-) -> Result<(Place<S>, Pass<Queue>), NoMemory>
+) -> Result<(Port, Pass<Queue>), NoMemory>
     requires pass { IsPassOf cell.now pass }
     requires numbers { (low pass ≡ number) × (number + 1 < high pass) }
     requires fresh { (n : ℕ) → Has pass n → own n (made pass) ≡ [] }
     requires number { (number < sources_of (start cell.now)) × (number < MAX_SOURCES) }
-    requires name { length opened.name ≤ MAX_NAME_LEN }
-    ensures placed { IfOk result (λ r. IsPlaced cell.now number opened r.0) }
+    ensures port { IfOk result (λ r. IsFreshPort cell.now number r.0) }
     ensures pass { IfOk result (λ r. IsPassOf cell.now r.1) }
     ensures numbers { IfOk result (λ r. (low r.1 ≡ number + 1) × (high r.1 ≡ high pass)) }
     ensures fresh { IfOk result (λ r. (n : ℕ) → Has r.1 n → own n (made r.1) ≡ []) }
 {
     let (mine, rest) = cell.split(pass, u32::from(number) + 1);
     match Port::new(alloc, mine, number) {
-        Ok(port) => Ok((Place::Ready(port, opened), rest)),
+        Ok(port) => Ok((port, rest)),
         Err((e, _)) => Err(e),
     }
 }
 
-/// A place for each source, in order. The pass that comes back has the numbers behind theirs.
-pub fn place_sources<S: Source>(
+/// A port for each of so many sources, in order. The pass that comes back has the numbers behind theirs.
+pub fn make_ports(
     alloc: Global,
     cell: &Cell<Queue>,
     pass: Pass<Queue>,
-    opened: Vec<Opened<S>>,
-) -> Result<(Vec<Place<S>>, Pass<Queue>), NoMemory>
+    sources: u8,
+) -> Result<(Vec<Port>, Pass<Queue>), NoMemory>
     requires pass { IsPassOf cell.now pass }
-    requires numbers { (low pass ≡ 0) × (high pass ≡ length opened.items + 1) }
+    requires numbers { (low pass ≡ 0) × (high pass ≡ sources + 1) }
     requires fresh { made pass ≡ [] }
-    requires sources { sources_of (start cell.now) ≡ length opened.items }
-    requires few { length opened.items ≤ MAX_SOURCES }
-    requires names { All (λ (o : OpenedSource S). length o.name ≤ MAX_NAME_LEN) opened.items }
-    ensures placed { IfOk result (λ r. ArePlaced cell.now 0 opened.items r.0.items) }
+    requires sources { sources_of (start cell.now) ≡ sources }
+    requires few { sources ≤ MAX_SOURCES }
+    ensures ports { IfOk result (λ r. AreFreshPorts cell.now 0 r.0.items × (length r.0.items ≡ sources)) }
     ensures pass { IfOk result (λ r. IsPassOf cell.now r.1) }
-    ensures numbers { IfOk result (λ r. (low r.1 ≡ length opened.items) × (high r.1 ≡ length opened.items + 1)) }
+    ensures numbers { IfOk result (λ r. (low r.1 ≡ sources) × (high r.1 ≡ sources + 1)) }
     ensures fresh { IfOk result (λ r. (n : ℕ) → Has r.1 n → own n (made r.1) ≡ []) }
 {
-    let mut places = Vec::with_capacity(alloc, opened.len())?;
+    let mut ports = Vec::with_capacity(alloc, usize::from(sources))?;
     let mut pass = pass;
     let mut number = 0;
-    let mut waiting = opened.into_iter();
-    'places: while let Some(opened) = waiting.next() {
-        let (place, rest) = place_next(alloc, cell, pass, number, opened)?;
-        places.push_reserved(place);
+    'ports: while number < sources {
+        let (port, rest) = next_port(alloc, cell, pass, number)?;
+        ports.push_reserved(port);
         pass = rest;
         number += 1;
     }
-    Ok((places, pass))
+    Ok((ports, pass))
+}
+
+/// A place for each source, in order, with its port. They go into `room`, which is empty and has room for them.
+pub fn place_sources<S: Source>(
+    ports: Vec<Port>,
+    opened: Vec<Opened<S>>,
+    room: Vec<Place<S>>,
+) -> Vec<Place<S>>
+    requires ports { length ports.items ≡ length opened.items }
+    requires empty { room.items ≡ [] }
+    requires room { length opened.items ≤ vec_capacity room }
+    ensures { result.items ≡ paired ports.items opened.items }
+{
+    let mut places = room;
+    let mut ports = ports.into_iter();
+    let mut waiting = opened.into_iter();
+    'places: while let Some(opened) = waiting.next() {
+        let Some(port) = ports.next() else {
+            unreachable!()
+        };
+        places.push_reserved(Place::Ready(port, opened));
+    }
+    places
 }
 
 /// Reads the source of a place to its end.

@@ -5,14 +5,14 @@ ghost use Rattle.turn_cell.specs.Passes.{is_worn, turns_made};
 ghost use Rattle.packet_queue.specs.Ends.{IsDrainOf, drain_pass};
 ghost use Rattle.source_thread.specs.Sources.{facts_of};
 ghost use Rattle.capture_threads.specs.Places.{ArePlaced, AreRun};
-ghost use Rattle.source_thread.specs.declared.ended.Opened.{Opened as OpenedSource};
+ghost use Rattle.cap_outside.specs.declared.opened.Opened.{Opened as OpenedSource};
 
 use crate::{Begun, Place, begin, finish, read_places};
 use cap_base::{Code, How, Item, Limits, Name, NoMemory, Octets, Taken};
-use cap_outside::{MemSource, Source};
+use cap_outside::{MemSource, Opened, Source};
 use pacing::{Arrivals, UnderWay};
 use packet_queue::{Drain, Queue};
-use source_thread::{Ended, Opened};
+use source_thread::Ended;
 use std::alloc::Global;
 use std::sync::Wait;
 use std::test::Fail;
@@ -195,12 +195,15 @@ fn captured<S: Source, R: Threads + Wait + Sync>(
     ensures { IfOk result (λ r. turns_made r.front < 2 ^ 56 → counter.new.done ≡ true) }
 {
     let under_way = UnderWay::new(alloc, limits);
+    let Ok(begun) = begin(alloc, limits, opened) else {
+        return Err(NoMemory);
+    };
     let Begun {
         cell,
         mut places,
         ended,
         mut drain,
-    } = begin(alloc, limits, opened)?;
+    } = begun;
     read_and_take(
         rt,
         alloc,

@@ -2,10 +2,14 @@
 use Rattle.std.specs.Prelude.{ℕ, ◌≡◌, ◌≤◌, ◌<◌, ◌^◌, ◌⊎◌, List, [], ◌∷◌, ◌++◌, length, Option, Some, None, Result, Ok, Err}
 use Rattle.cap_base.specs.declared.packet.Packet.{Packet}
 use Rattle.cap_outside.specs.Told.{Tells}
+use Rattle.cap_outside.specs.declared.sink.Sink.{Ghosts as SinkMeaning}
+use Rattle.cap_outside.specs.declared.source.Source.{Ghosts as SourceMeaning}
+use Rattle.cap_outside.specs.declared.view.View.{Ghosts as ViewMeaning}
 use Rattle.sync_pipe.specs.declared.said.Said.{Said}
 use Rattle.sync_pipe.specs.Heard.{heard}
 use Rattle.mode_base.specs.Written.{WroteWhole, WrotePrefix, WroteLast}
 use Rattle.mode_base.specs.Sources.{read_failed_line}
+pub use Rattle.mode_base.specs.Sources.{SourceFacts, facts_by, IsAtEnd, GaveBytes, IsFailed}
 use Rattle.live_follower.specs.Seen.{Stays}
 use Rattle.follow_mode.specs.declared.fault.Fault.{Fault}
 use Rattle.follow_mode.specs.declared.fault.Fault.TheVariants as fault
@@ -13,7 +17,7 @@ use Rattle.follow_mode.specs.declared.stop.Stop.{Stop}
 use Rattle.follow_mode.specs.declared.stop.Stop.TheVariants as stop
 use Rattle.follow_mode.specs.Lines.{fault_line}
 use Rattle.follow_mode.specs.Transcript.{Entry, messages_of, given_of, lines_of, AreFirst, AreCaughtUp}
-use Rattle.follow_mode.specs.Causes.{Watched, WasCalm, FileCause}
+use Rattle.follow_mode.specs.Causes.{Watched, WasCalm, FileCause, watched_by}
 use Rattle.follow_mode.specs.Ends.{EndsWhole, EndsInside}
 
 -- how a run ends
@@ -27,34 +31,6 @@ exit_of (Err stop.Unreadable) = 2
 exit_of (Err stop.Unwritten) = 4
 exit_of (Err stop.NoMemory) = 5
 exit_of (Err (stop.Stuck why)) = 8
-
--- ---- the source
-
--- what is known of a source at the end: how many of its reads gave nothing, and how many failed
-pub record SourceFacts : Type 0 where
-  pub taken : Option (List ℕ)
-  pub left : Option (List ℕ)
-  pub ends : ℕ
-  pub faults : ℕ
-
-abbrev pub facts_by : {S : Type 0} → (S → Option (List ℕ)) → (S → Option (List ℕ)) → (S → ℕ) → (S → ℕ) → S → SourceFacts
-facts_by taken left ends faults s = record { taken = taken s; left = left s; ends = ends s; faults = faults s }
-
--- the last read gave nothing, the only one, and none failed: nothing is left
-pub record IsAtEnd (source : SourceFacts) : Type 0 where
-  pub ended : source.ends ≡ 1
-  pub unfailed : source.faults ≡ 0
-  pub none_left : Tells source.left []
-
--- each read gave bytes, and none failed
-pub record GaveBytes (source : SourceFacts) : Type 0 where
-  pub unended : source.ends ≡ 0
-  pub unfailed : source.faults ≡ 0
-
--- the last read failed, the only one, and each other gave bytes
-pub record IsFailed (source : SourceFacts) : Type 0 where
-  pub unended : source.ends ≡ 0
-  pub failed : source.faults ≡ 1
 
 -- ---- the messages
 
@@ -74,8 +50,8 @@ pub record FollowedPart (w : Watched) (bytes : List ℕ) (entries last : List En
 
 -- ---- the ends
 
--- The source was read to its end, all its messages were followed, and the lines were written.
-pub record RanWhole (w : Watched) (source : SourceFacts) (wrote : List ℕ → Type 0) : Type 0 where
+-- The source was read to its end, all its messages were followed and heard, and the lines were written.
+pub record RanWhole (w : Watched) (source : SourceFacts) (hears : List Said → Type 0) (wrote : List ℕ → Type 0) : Type 0 where
   pub bytes : List ℕ
   pub entries : List Entry
   pub told : Tells source.taken bytes
@@ -83,6 +59,7 @@ pub record RanWhole (w : Watched) (source : SourceFacts) (wrote : List ℕ → T
   pub at_end : IsAtEnd source
   pub followed : FollowedAll w bytes entries None
   pub ended : EndsWhole bytes
+  pub heard_are : hears (messages_of entries)
   pub written : wrote (lines_of entries)
 
 -- A read failed behind bytes all of whose messages were followed.
@@ -170,19 +147,25 @@ RanStuck w source wrote fault.SpentMessages = RanLong w source wrote
 RanStuck w source wrote other = RanToFault w source wrote other
 
 -- What was done, by how it ended. Of a text it is said that it was written whole or that only a prefix of it was, and of a
--- text and a last line that the text was written whole and then the line as far as no write failed.
-abbrev pub Ran : {T : Type 0} → Watched → SourceFacts → (List ℕ → Type 0) → (List ℕ → Type 0) → (List ℕ → List ℕ → Type 0) → List ℕ → Result T Stop → Type 0
-Ran w source whole prefix last name (Ok done) = RanWhole w source whole
-Ran w source whole prefix last name (Err stop.Unreadable) = RanToFailure w source last (read_failed_line name)
-Ran w source whole prefix last name (Err stop.Unwritten) = RanUnwritten w source prefix
-Ran w source whole prefix last name (Err stop.NoMemory) = RanOut w source whole
-Ran w source whole prefix last name (Err (stop.Stuck why)) = RanStuck w source last why
+-- text and a last line that the text was written whole and then the line as far as no write failed. Of messages that were
+-- all followed it is said what they were heard as.
+abbrev pub Ran : {T : Type 0} → Watched → SourceFacts → (List Said → Type 0) → (List ℕ → Type 0) → (List ℕ → Type 0) → (List ℕ → List ℕ → Type 0) → List ℕ → Result T Stop → Type 0
+Ran w source hears whole prefix last name (Ok done) = RanWhole w source hears whole
+Ran w source hears whole prefix last name (Err stop.Unreadable) = RanToFailure w source last (read_failed_line name)
+Ran w source hears whole prefix last name (Err stop.Unwritten) = RanUnwritten w source prefix
+Ran w source hears whole prefix last name (Err stop.NoMemory) = RanOut w source whole
+Ran w source hears whole prefix last name (Err (stop.Stuck why)) = RanStuck w source last why
 
 -- What a run did whose source was opened.
 pub record FollowedSource {K : Type 0} (written : K → Option (List ℕ)) (faults : K → ℕ) (name : List ℕ) (w : Watched) (source : SourceFacts) (k0 k1 : K) (exit : ℕ) : Type 0 where
   pub end : End
   pub number : exit ≡ exit_of end
-  pub ran : Ran w source (WroteWhole written faults k0 k1) (WrotePrefix written faults k0 k1) (WroteLast written faults k0 k1) name end
+  pub ran : Ran w source (λ messages. Unit {0}) (WroteWhole written faults k0 k1) (WrotePrefix written faults k0 k1) (WroteLast written faults k0 k1) name end
+
+-- the same, by what is seen of the source, of the lines and of the view
+abbrev pub FollowedBy : {S K V : Type 0} → SourceMeaning S → SinkMeaning K → ViewMeaning V → List ℕ → S → K → K → V → V → ℕ → Type 0
+FollowedBy source note view name s k0 k1 v0 v1 exit =
+    FollowedSource note.written note.faults name (watched_by view.shown view.absent view.ends view.faults v0 v1) (facts_by source.taken source.left source.ends source.faults s) k0 k1 exit
 
 -- the exits of a run
 abbrev pub IsFollowExit : ℕ → Type 0

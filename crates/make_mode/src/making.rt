@@ -4,33 +4,15 @@ ghost use Rattle.cap_base.specs.declared.limits.TheConstants.{MAX_SOURCES};
 ghost use Rattle.cap_outside.specs.Causes.{HasCause, Counts};
 ghost use Rattle.cap_outside.specs.Told.{Leads};
 ghost use Rattle.mode_base.specs.Outlets.{DidFront};
-ghost use Rattle.make_mode.specs.Making.{Made, IsMakeExit, ordered, file_name, file_effects, files_effects, stream_of, bytes_of, lines_with};
-ghost use Rattle.make_mode.specs.inner.Parts.{StoppedAt, EndIs, FileCause};
+ghost use Rattle.make_mode.specs.Making.{MadeBy, IsMakeExit, ordered, file_name, file_effects, files_effects, stream_of, bytes_of, lines_with};
+ghost use Rattle.make_mode.specs.inner.Parts.{StoppedAt, FilesStopped, EndIs, FileCause};
 
 use crate::stop::Stop;
-use cap_base::{Failed, Name, bytes_from};
+use cap_base::{Failed, Name};
 use cap_make::make_source;
 use cap_outside::{Outlet, Sink};
-use mode_base::write_text;
+use mode_base::{append_text, write_text};
 use std::alloc::{AllocError, Global};
-
-/// Adds a whole text to the current file.
-fn append_all<L: Outlet>(outlet: &mut L, text: &[u8]) -> Result<(), Failed>
-    requires file { L.has_file outlet.old ≡ true }
-    ensures ok { OnOk result (Leads L.stands_for outlet.old outlet.new (file_bytes text.now)) }
-    ensures err { OnErr result (DidFront L.stands_for outlet.old outlet.new (file_bytes text.now)) }
-    ensures file { L.has_file outlet.new ≡ true }
-    ensures cause { HasCause (L.file_faults outlet.old) (L.file_faults outlet.new) result }
-    ensures uncounted { OnOk result (L.file_faults outlet.new ≡ L.file_faults outlet.old) }
-    ensures other { L.say_faults outlet.new ≡ L.say_faults outlet.old }
-{
-    let mut from = 0usize;
-    while from < text.len() {
-        let count = outlet.append(bytes_from(text, from))?;
-        from += count;
-    }
-    Ok(())
-}
 
 /// Writes a whole file.
 #[tactic(auto, using(crate::proofs::Makings::file_whole, crate::proofs::Makings::file_none, crate::proofs::Makings::file_part, crate::proofs::Makings::file_unfinished))]
@@ -44,7 +26,7 @@ fn write_file<L: Outlet>(outlet: &mut L, name: &Name, text: &[u8]) -> Result<(),
     ensures other { L.say_faults outlet.new ≡ L.say_faults outlet.old }
 {
     outlet.create(name)?;
-    append_all(outlet, text)?;
+    append_text(outlet, text)?;
     outlet.finish()?;
     Ok(())
 }
@@ -84,6 +66,7 @@ fn make_file<L: Outlet>(
     ensures count { IfOk result (λ n. n ≡ length (stream_of (ordered start sources packets name.now) which)) }
     ensures err { IfErr result (λ why. StoppedAt L.stands_for outlet.old outlet.new (file_effects (ordered start sources packets name.now) which) why) }
     ensures closed { OnOk result (L.has_file outlet.new ≡ false) }
+    ensures starved { result ≡ Err Stop.NoMemory → L.has_file outlet.new ≡ false }
     ensures cause { FileCause (L.file_faults outlet.old) (L.file_faults outlet.new) result }
     ensures other { L.say_faults outlet.new ≡ L.say_faults outlet.old }
 {
@@ -119,8 +102,9 @@ fn make_files<L: Outlet>(
     requires packets { packets ≤ 1000000 }
     ensures ok { OnOk result (Leads L.stands_for outlet.old outlet.new (files_effects (ordered start sources packets name.now) sources)) }
     ensures count { IfOk result (λ n. n ≡ bytes_of (ordered start sources packets name.now) sources) }
-    ensures err { IfErr result (λ why. StoppedAt L.stands_for outlet.old outlet.new (files_effects (ordered start sources packets name.now) sources) why) }
+    ensures err { IfErr result (λ why. FilesStopped L.stands_for (ordered start sources packets name.now) outlet.old outlet.new why) }
     ensures closed { OnOk result (L.has_file outlet.new ≡ false) }
+    ensures starved { result ≡ Err Stop.NoMemory → L.has_file outlet.new ≡ false }
     ensures cause { FileCause (L.file_faults outlet.old) (L.file_faults outlet.new) result }
     ensures other { L.say_faults outlet.new ≡ L.say_faults outlet.old }
 {
@@ -159,6 +143,7 @@ fn make_all<L: Outlet, K: Sink>(
     ensures made { EndIs L.stands_for K.written K.faults (ordered start sources packets name.now) outlet.old outlet.new note.old note.new result }
     ensures closed { OnOk result (L.has_file outlet.new ≡ false) }
     ensures unwritten { result ≡ Err Stop.Unwritten → L.has_file outlet.new ≡ false }
+    ensures starved { result ≡ Err Stop.NoMemory → L.has_file outlet.new ≡ false }
     ensures cause { FileCause (L.file_faults outlet.old) (L.file_faults outlet.new) result }
     ensures other { L.say_faults outlet.new ≡ L.say_faults outlet.old }
 {
@@ -177,7 +162,8 @@ fn make_all<L: Outlet, K: Sink>(
 /// - 0 where all files were finished and the lines written,
 /// - 3 exactly where a call on a file failed; the outlet did the first of what there was to do, and nothing is written,
 /// - 4 where the lines couldn't be written whole, all files being finished,
-/// - 5 where memory ran out; the outlet did the first of what there was to do, perhaps all, and nothing is written.
+/// - 5 where memory ran out; the files of the first so many streams were made, perhaps all, each whole, and nothing is
+///   written.
 #[tactic(auto, using(crate::proofs::Makings::made_whole, crate::proofs::Makings::made_stopped, crate::proofs::Makings::stopped_exit, crate::proofs::Makings::whole_counts, crate::proofs::Makings::stopped_counts))]
 pub fn make<L: Outlet, K: Sink>(
     alloc: Global,
@@ -194,9 +180,9 @@ pub fn make<L: Outlet, K: Sink>(
     requires packets { 1 ≤ packets }
     requires few_packets { packets ≤ 1000000 }
     ensures exits { IsMakeExit result }
-    ensures made { Made L.stands_for K.written K.faults (ordered start sources packets name.now) outlet.old outlet.new note.old note.new result }
+    ensures made { MadeBy L.Outlet K.Sink (ordered start sources packets name.now) outlet.old outlet.new note.old note.new result }
     ensures files { Counts (result ≡ 3) (L.file_faults outlet.old) (L.file_faults outlet.new) }
-    ensures closed { ¬ (result ≡ 3) → ¬ (result ≡ 5) → L.has_file outlet.new ≡ false }
+    ensures closed { ¬ (result ≡ 3) → L.has_file outlet.new ≡ false }
     ensures unsaid { L.say_faults outlet.new ≡ L.say_faults outlet.old }
 {
     match make_all(alloc, start, sources, packets, name, outlet, note) {

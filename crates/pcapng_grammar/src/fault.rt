@@ -31,6 +31,33 @@ pub enum What {
     TooLong,
 }
 
+impl What {
+    ghost use Rattle.std.specs.Prelude.{◌≡◌};
+    ghost use Rattle.pcapng_grammar.specs.Words.{defect_word};
+
+    /// The word for it, as it is printed: `short`, `nosection`, `secondsection`, `order`, `length`, `trailer`, `kind`,
+    /// `body`, `interface`, `late`, `statistics`, `missing` or `toolong`.
+    pub fn word(self) -> &'static str
+        ensures { result.now ≡ defect_word self }
+    {
+        match self {
+            What::Short => "short",
+            What::NoSection => "nosection",
+            What::SecondSection => "secondsection",
+            What::Order => "order",
+            What::Length => "length",
+            What::Trailer => "trailer",
+            What::Kind => "kind",
+            What::Body => "body",
+            What::Interface => "interface",
+            What::Late => "late",
+            What::Statistics => "statistics",
+            What::Missing => "missing",
+            What::TooLong => "toolong",
+        }
+    }
+}
+
 /// Why a file isn't accepted.
 #[derive(Clone, Copy, Debug, PartialEq, Eq)]
 pub enum CheckFault {

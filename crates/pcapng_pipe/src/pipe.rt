@@ -1,14 +1,38 @@
-ghost use Rattle.std.specs.Prelude.{ℕ, ◌≡◌, ◌≤◌, ◌+◌, ◌^◌, ◌↔◌, Ok, [], length, take, IfOk, IfSome, OnErr};
+ghost use Rattle.std.specs.Prelude.{ℕ, ◌≡◌, ◌≤◌, ◌+◌, ◌^◌, ◌↔◌, Ok, [], length, take, IfOk, IfSome, IfNone, OnOk, OnErr, ◌∷◌};
+ghost use Rattle.pcapng_pipe.specs.Pieces.{passed};
+ghost use Rattle.pcapng_pipe.specs.inner.Blocks.{whole_of};
 
+use crate::passing::{body_between, passed_at};
 use crate::sections::Sections;
 use crate::stage::Stage;
 use crate::value::Value;
+use crate::whole::Whole;
 use cap_base::{Code, How, Name, NoMemory, Octets, Spares, Step};
 use input_buffer::InputBuffer;
 use pcapng_blocks::{Block, BlockFault, passed_over, read_block_into};
 use std::alloc::Global;
 use std::marker::Model;
 use std::mem;
+
+/// The first bytes.
+fn front_of(text: &[u8], len: usize) -> &[u8]
+    requires { len ≤ length text.now }
+    ensures { result.now ≡ take len text.now }
+{
+    &text[..len]
+}
+
+/// As a step that may be a block that is passed on.
+fn whole_of(step: Step) -> Whole
+    ensures { result ≡ whole_of step }
+{
+    match step {
+        Step::Iface(iface) => Whole::Iface(iface),
+        Step::Packet(packet) => Whole::Packet(packet),
+        Step::More => Whole::More,
+        Step::Bad { code, at } => Whole::Bad { code, at },
+    }
+}
 
 /// A reader of pcapng, which is fed the text in pieces of any length.
 ///
@@ -38,7 +62,10 @@ impl Model for PcapngPipe {
 
 impl PcapngPipe {
     ghost use Rattle.pcapng_pipe.specs.Pipe.{StandsFor, IsDrained, IsWaiting, Feeds, Gives, EndsAs, Steps, IsLawful, fresh, room_for, with_kept, fed_count, ending_of_rest};
-    ghost use Rattle.pcapng_pipe.specs.inner.Blocks.{StepsOne, StepsOf, TakesBlock, Passes, Breaks};
+    ghost use Rattle.pcapng_pipe.specs.Pieces.{events_among};
+    ghost use Rattle.pcapng_pipe.specs.Passing.{StandsForPieces, FeedsPieces, GivesPieces, HoldsNoPiece, WaitsForPieces, StepsPiece, IsFitWhole, IsLawfulWhole, given_by};
+    ghost use Rattle.pcapng_pipe.specs.inner.Blocks.{StepsOf, TakesBlock, Passes, Breaks, ReadsOne, WholeOne, events_by};
+    ghost use Rattle.pcapng_pipe.specs.inner.Passed.{IsPassedHere, HasNonePassed, IsFramed};
     ghost use Rattle.pcapng_pipe.specs.inner.Taking.{IsFitValue};
     ghost use Rattle.cap_base.specs.Endings.{IsEnd};
     ghost use Rattle.cap_base.specs.Carried.{IsFitStep};
@@ -51,15 +78,18 @@ impl PcapngPipe {
         ensures value { IfOk result (λ p. p ≡ fresh name) }
         ensures stands { IfOk result (λ p. StandsFor p [] []) }
         ensures drained { IfOk result (λ p. IsDrained p) }
+        ensures stands_for_pieces { IfOk result (λ p. StandsForPieces p [] []) }
+        ensures holds_none { IfOk result (λ p. HoldsNoPiece p) }
     {
         let mut bytes = Octets::new(alloc);
         bytes.append(name.as_text().as_bytes())?;
+        let input = InputBuffer::new(alloc)?;
         Ok(PcapngPipe {
             alloc,
             name: bytes,
             sections: Sections::new(alloc),
             stage: Stage::Blocks,
-            input: InputBuffer::new(alloc),
+            input,
             spares: Spares::new(alloc)?,
         })
     }
@@ -71,6 +101,7 @@ impl PcapngPipe {
         ensures count { IfOk result (λ n. n ≡ room_for self.old (length piece.now)) }
         ensures kept { IfOk result (λ n. self.new ≡ with_kept self.old (take n piece.now)) }
         ensures fed { IfOk result (λ n. Feeds self.old self.new (take n piece.now)) }
+        ensures pieces { IfOk result (λ n. FeedsPieces self.old self.new (take n piece.now)) }
         ensures err { OnErr result (self.new ≡ self.old) }
     {
         if let Stage::Broken(_) = self.stage {
@@ -107,7 +138,7 @@ impl PcapngPipe {
         if let Stage::Broken(code) = self.stage {
             return How::Bad { code, at };
         }
-        if !self.input.kept().is_empty() {
+        if !self.input.is_empty() {
             return How::Cut { at };
         }
         if self.sections.has_section() {
@@ -120,7 +151,7 @@ impl PcapngPipe {
     /// How the bytes fed end, where nothing is to come: `Bad` after a defect, `Clean` behind a section header where no
     /// byte is kept, else `Cut` at the place of the unfinished block.
     ///
-    /// Call it after `next` answered `More` or `Bad`, before the next `feed`.
+    /// Call it after `next` or `next_block` answered `More` or `Bad`, before the next `feed`.
     pub fn finish(&self) -> How
         requires { IsDrained self.now }
         ensures end { IsEnd result }
@@ -131,6 +162,7 @@ impl PcapngPipe {
     }
 
     /// Has met a defect, at the first of the kept bytes.
+    #[cold]
     fn refuse(&mut self, code: Code) -> Step
         ensures breaks { Breaks code self.old self.new }
         ensures step { result ≡ Step.Bad code self.old.place }
@@ -189,17 +221,13 @@ impl PcapngPipe {
     }
 
     /// Reads one block.
-    fn next_block(&mut self) -> Result<Option<Step>, NoMemory>
+    fn read_one(&mut self) -> Result<Option<Step>, NoMemory>
         requires { self.old.stage ≡ Stage.Blocks }
-        ensures step { IfOk result (λ r. StepsOne self.old self.new r) }
+        ensures reads { IfOk result (λ r. ReadsOne self.old self.new r) }
         ensures fit { IfOk result (λ r. IfSome r (λ s. IsFitStep s)) }
-        ensures lawful { IfOk result (λ r. IfSome r (λ s. IsLawful self.old self.new s)) }
-        ensures more { IfOk result (λ r. IfSome r (λ s. (s ≡ Step.More) ↔ IsWaiting self.old)) }
-        ensures same { fed_count self.new ≡ fed_count self.old }
-        ensures name { self.new.name ≡ self.old.name }
         ensures err { OnErr result (self.new ≡ self.old) }
     {
-        let text = self.input.kept();
+        let text = self.input.kept()?;
         if text.is_empty() {
             return Ok(Some(Step::More));
         }
@@ -231,7 +259,7 @@ impl PcapngPipe {
         ensures err { OnErr result (Gives self.old self.new []) }
     {
         'read: loop {
-            if let Some(step) = self.next_block()? {
+            if let Some(step) = self.read_one()? {
                 return Ok(step);
             }
         }
@@ -258,6 +286,101 @@ impl PcapngPipe {
                 at: self.input.place(),
             }),
             Stage::Blocks => self.next_event(),
+        }
+    }
+
+    /// The type and the length of the block that the kept bytes begin with, where it is passed on.
+    fn passed_here(&self) -> Result<Option<(u32, usize)>, NoMemory>
+        ensures passed { IfOk result (λ r. IfSome r (λ found. IsPassedHere self.now found.0 found.1)) }
+        ensures none { IfOk result (λ r. IfNone r (HasNonePassed self.now)) }
+    {
+        if !self.sections.is_little() {
+            return Ok(None);
+        }
+        let text = self.input.kept()?;
+        Ok(passed_at(text))
+    }
+
+    /// Takes the block of this type and length that is passed on.
+    fn take_passed(&mut self, kind: u32, len: usize) -> Result<Whole, NoMemory>
+        requires { IsPassedHere self.old kind len }
+        ensures passes { OnOk result (Passes len self.old.context self.old self.new) }
+        ensures whole { IfOk result (λ w. given_by w ≡ passed (take len self.old.kept) ∷ []) }
+        ensures fit { IfOk result (λ w. IsFitWhole w) }
+        ensures err { OnErr result (self.new ≡ self.old) }
+    {
+        let text = self.input.kept()?;
+        let body = Octets::from_slice(self.alloc, body_between(front_of(text, len)))?;
+        self.pass(len);
+        Ok(Whole::Passed { kind, body })
+    }
+
+    /// Reads one block, or takes it as it stands where it is passed on.
+    fn read_whole(&mut self) -> Result<Option<Whole>, NoMemory>
+        requires { self.old.stage ≡ Stage.Blocks }
+        ensures step { IfOk result (λ r. WholeOne self.old self.new r) }
+        ensures events { IfOk result (λ r. Gives self.old self.new (events_by r)) }
+        ensures fit { IfOk result (λ r. IfSome r (λ w. IsFitWhole w)) }
+        ensures lawful { IfOk result (λ r. IfSome r (λ w. IsLawfulWhole self.old self.new w)) }
+        ensures more { IfOk result (λ r. IfSome r (λ w. (w ≡ Whole.More) ↔ WaitsForPieces self.old)) }
+        ensures same { fed_count self.new ≡ fed_count self.old }
+        ensures name { self.new.name ≡ self.old.name }
+        ensures err { OnErr result (self.new ≡ self.old) }
+    {
+        let found = self.passed_here()?;
+        if let Some((kind, len)) = found {
+            let whole = self.take_passed(kind, len)?;
+            return Ok(Some(whole));
+        }
+        match self.read_one()? {
+            Some(step) => Ok(Some(whole_of(step))),
+            None => Ok(None),
+        }
+    }
+
+    /// Reads blocks up to the first that gives a piece.
+    fn next_whole(&mut self) -> Result<Whole, NoMemory>
+        requires { self.old.stage ≡ Stage.Blocks }
+        ensures step { IfOk result (λ whole. StepsPiece self.old self.new whole) }
+        ensures events { IfOk result (λ whole. Gives self.old self.new (events_among (given_by whole))) }
+        ensures fit { IfOk result (λ whole. IsFitWhole whole) }
+        ensures lawful { IfOk result (λ whole. IsLawfulWhole self.old self.new whole) }
+        ensures more { IfOk result (λ whole. (whole ≡ Whole.More) ↔ WaitsForPieces self.old) }
+        ensures same { fed_count self.new ≡ fed_count self.old }
+        ensures name { self.new.name ≡ self.old.name }
+        ensures err { OnErr result (GivesPieces self.old self.new [] × Gives self.old self.new []) }
+    {
+        'read: loop {
+            if let Some(whole) = self.read_whole()? {
+                return Ok(whole);
+            }
+        }
+    }
+
+    /// The next piece: the interfaces and packets of the blocks, and the blocks that are passed on, in their order.
+    ///
+    /// Passed on are the blocks of types 4 (name resolution), 0x0A (decryption secrets) and 0x0BAD (custom, may be copied)
+    /// of little-endian sections. It is called in place of `next`, which passes over these, or beside it.
+    ///
+    /// `More` comes exactly where the kept bytes hold no piece and no defect. `Bad` comes exactly at the first defect, and
+    /// is answered from then on. `NoMemory` gives nothing and loses nothing, as with `next`.
+    pub fn next_block(&mut self) -> Result<Whole, NoMemory>
+        ensures step { IfOk result (λ whole. StepsPiece self.old self.new whole) }
+        ensures events { IfOk result (λ whole. Gives self.old self.new (events_among (given_by whole))) }
+        ensures fit { IfOk result (λ whole. IsFitWhole whole) }
+        ensures lawful { IfOk result (λ whole. IsLawfulWhole self.old self.new whole) }
+        ensures more { IfOk result (λ whole. (whole ≡ Whole.More) ↔ WaitsForPieces self.old) }
+        ensures again { (code : Code) (at : ℕ) → ending_of_rest self.old ≡ How.Bad code at → (self.new ≡ self.old) × (result ≡ Ok (Whole.Bad code at)) }
+        ensures same { fed_count self.new ≡ fed_count self.old }
+        ensures name { self.new.name ≡ self.old.name }
+        ensures err { OnErr result (GivesPieces self.old self.new [] × Gives self.old self.new []) }
+    {
+        match self.stage {
+            Stage::Broken(code) => Ok(Whole::Bad {
+                code,
+                at: self.input.place(),
+            }),
+            Stage::Blocks => self.next_whole(),
         }
     }
 }

@@ -4,7 +4,7 @@ use Rattle.cap_base.specs.declared.endings.How.{How}
 use Rattle.cap_base.specs.declared.endings.How.TheVariants.{Clean, Cut, ReadFault, OpenFault, Worn}
 use Rattle.cap_base.specs.declared.entries.Entry.{Entry}
 use Rattle.cap_outside.specs.Told.{Grows}
-use Rattle.source_thread.specs.declared.ended.Opened.{Opened}
+use Rattle.cap_outside.specs.declared.opened.Opened.{Opened}
 use Rattle.source_thread.specs.declared.ended.Ended.{Ended}
 use Rattle.source_thread.specs.Told.{SourceFacts, Told}
 

@@ -20,7 +20,7 @@ mod reading;
 mod sender;
 mod source;
 
-pub use ended::{Ended, Opened};
+pub use ended::Ended;
 pub use source::{read_paced, read_source};
 
 #[cfg(test)]

@@ -7,12 +7,12 @@ ghost use Rattle.packet_queue.specs.Ends.{IsPortOf, mine, port_pass, port_source
 ghost use Rattle.source_thread.specs.Sources.{facts_of, source_facts, WasRead};
 ghost use Rattle.source_thread.specs.inner.Sending.{IsSender, SourceEntered, entries_of, number_of, waiting};
 
-use crate::ended::{Ended, Opened};
+use crate::ended::Ended;
 use crate::reader::new_reader;
 use crate::reading::{PIECE_LEN, read_pieces};
 use crate::sender::Sender;
 use cap_base::{How, Name, NoMemory};
-use cap_outside::Source;
+use cap_outside::{Opened, Source};
 use pacing::Pace;
 use packet_queue::{Batch, Port, Queue};
 use std::alloc::Global;

@@ -2,9 +2,9 @@
 ghost use Rattle.std.specs.Prelude.{◌≡◌, ◌≤◌, []};
 ghost use Rattle.packet_queue.specs.Ends.{IsDrainOf, drain_pass, mine};
 
-use crate::{Opened, read_source};
+use crate::read_source;
 use cap_base::{Code, How, Item, Limits, MAX_NAME_LEN, Name, NoMemory, Octets, Taken, Why};
-use cap_outside::MemSource;
+use cap_outside::{MemSource, Opened};
 use packet_queue::{Drain, Port, Queue};
 use std::alloc::Global;
 use std::fmt::Write;

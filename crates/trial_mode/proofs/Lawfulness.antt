@@ -7,7 +7,7 @@ use Rattle.cap_base.specs.declared.limits.TheConstants.{MAX_NAME_LEN, MAX_SOURCE
 use Rattle.cap_base.specs.Lawful.{IsGivenAbove0, IsLawfulName, AreLawful}
 use Rattle.capture_report.proofs.Zeros.{none_in_both, none_in_decimal, decimal_is_short}
 use Rattle.cap_outside.specs.declared.source.SureSource.{SureSource}
-use Rattle.source_thread.specs.declared.ended.Opened.{Opened}
+use Rattle.cap_outside.specs.declared.opened.Opened.{Opened}
 use Rattle.trial_mode.specs.Streams.{Streams, source_name, source_names, trial_settings}
 use Rattle.trial_mode.specs.inner.Opened.{AreOpened}
 

@@ -1,7 +1,7 @@
 -- Sources that are opened one after another.
 use Rattle.std.proofs.Common.{◌≡◌, ℕ, ◌+◌, List, [], ◌∷◌, ◌++◌, length, subst, arith}
 use Rattle.cap_outside.specs.declared.source.SureSource.{SureSource}
-use Rattle.source_thread.specs.declared.ended.Opened.{Opened}
+use Rattle.cap_outside.specs.declared.opened.Opened.{Opened}
 use Rattle.trial_mode.specs.Streams.{Streams}
 use Rattle.trial_mode.specs.inner.Opened.{IsOpened, AreOpened}
 

@@ -1,6 +1,6 @@
 -- Sources that were read to the end of their streams.
 use Rattle.std.proofs.Common.{◌≡◌, ◌≢◌, ℕ, ◌+◌, ◌<◌, ◌≤◌, true, false, List, [], ◌∷◌, ◌++◌, length, Option, Some, None, sym, ap, ◌∙◌, subst, arith, ⊎_elim}
-use Rattle.std.specs.Prelude.{IsSomeAnd, IfSome}
+use Rattle.std.specs.Prelude.{IsSomeAnd}
 use Rattle.std.specs.List.{list_all}
 use Rattle.std.proofs.lemmas.List.{append-nil}
 use Rattle.std.proofs.lemmas.Bool.{and_parts, cases_eq}
@@ -19,7 +19,7 @@ use Rattle.cap_outside.specs.declared.outlet.SureOutlet.{SureOutlet}
 use Rattle.cap_outside.specs.declared.source.SureSource.{SureSource}
 use Rattle.turn_cell.specs.Passes.{history}
 use Rattle.source_thread.specs.declared.ended.Ended.{Ended}
-use Rattle.source_thread.specs.declared.ended.Opened.{Opened}
+use Rattle.cap_outside.specs.declared.opened.Opened.{Opened}
 use Rattle.source_thread.specs.Sources.{SourceTold, source_facts}
 use Rattle.source_thread.specs.Told.{SourceFacts, ReadToEnd, Told}
 use Rattle.writer_thread.specs.declared.writer_end.WriterEnd.{WriterEnd}
@@ -30,7 +30,7 @@ use Rattle.capture_run.specs.Sources.{SourcesAre}
 use Rattle.capture_core.specs.Writers.{writers_past}
 use Rattle.trial_mode.specs.Streams.{Streams, stream_of, source_name, source_names, trial_settings}
 use Rattle.trial_mode.specs.Trials.{unread, read_whole, IsToldWhole, AreCaptured}
-use Rattle.trial_mode.specs.inner.Ends.{sure_facts, is_clean, ends_clean, EndedWell, WereCaptured, WereCapturedIn}
+use Rattle.trial_mode.specs.inner.Ends.{sure_facts, is_clean, ends_clean, EndedWell, WereCaptured}
 use Rattle.trial_mode.specs.inner.Opened.{AreOpened}
 use Rattle.trial_mode.proofs.Shapes.{never_stopped, unfailed}
 
@@ -101,11 +101,10 @@ captured_whole streams sources w f outlet c e =
     }
 
 -- what `capture` gives back
-pub were_captured : (streams : Streams) (sources : List (Ended SureSource)) (w : WriterEnd) (front : Option QueueFront) (opened : List (Opened SureSource)) (s : Settings) (l0 l1 : SureOutlet) (c0 c1 : SureClock) (files0 files1 says0 says1 : ℕ)
+pub were_captured : (streams : Streams) (sources : List (Ended SureSource)) (w : WriterEnd) (f : QueueFront) (opened : List (Opened SureSource)) (s : Settings) (l0 l1 : SureOutlet) (c0 c1 : SureClock) (files0 files1 says0 says1 : ℕ)
     → AreOpened streams 0 opened → length opened ≡ streams.sources → done_of l0 ≡ [] → s ≡ trial_settings streams.sources
-    → IfSome front (λ f. CaptureIs sure_facts has_done clock.has_read s opened sources w f l0 l1 c0 c1 files0 files1 says0 says1) → WereCapturedIn streams sources w front l1
-were_captured streams sources w None opened s l0 l1 c0 c1 files0 files1 says0 says1 o k d q i = tt
-were_captured streams sources w (Some f) opened s l0 l1 c0 c1 files0 files1 says0 says1 o k d q i = record {
+    → CaptureIs sure_facts has_done clock.has_read s opened sources w f l0 l1 c0 c1 files0 files1 says0 says1 → WereCaptured streams sources w f l1
+were_captured streams sources w f opened s l0 l1 c0 c1 files0 files1 says0 says1 o k d q i = record {
   opened = opened;
   are_opened = o;
   as_many = k;

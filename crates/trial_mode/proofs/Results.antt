@@ -1,6 +1,5 @@
 -- What a trial comes to, by how its parts ended.
-use Rattle.std.proofs.Common.{◌≡◌, inl, inr, ℕ, ◌≤◌, true, List, Option, Some, None, Result, Ok, Err, refl, ap, ◌∙◌, subst, arith}
-use Rattle.std.specs.Prelude.{is_some}
+use Rattle.std.proofs.Common.{◌≡◌, inl, inr, ℕ, ◌≤◌, List, Option, Some, Result, Ok, Err, refl, ap, ◌∙◌, subst, arith}
 use Rattle.cap_base.specs.Effects.{Effect, effects}
 use Rattle.cap_outside.specs.Causes.{one_higher}
 use Rattle.cap_outside.specs.SureOutlet.{done_of}
@@ -16,7 +15,7 @@ use Rattle.trial_mode.specs.declared.stop.Stop.TheVariants as stop
 use Rattle.trial_mode.specs.Lines.{lines_with}
 use Rattle.trial_mode.specs.Streams.{Streams}
 use Rattle.trial_mode.specs.Trials.{Tried, IsTrialExit, lines_of}
-use Rattle.trial_mode.specs.inner.Ends.{WereCapturedIn, WasFound, AreLines, ConcludedSo, exit_by}
+use Rattle.trial_mode.specs.inner.Ends.{WereCaptured, WasFound, AreLines, ConcludedSo, exit_by}
 use Rattle.trial_mode.proofs.Readings.{captured_whole}
 use Rattle.trial_mode.proofs.Wholes.{FoundAll, whole, found_all}
 
@@ -33,10 +32,9 @@ lines_are streams done lines all l = let w = all l.accounted l.files l.checked l
     ∙ ap (λ (z : ℕ). lines_with streams.sources streams.packets streams.packets 1 z) w.checked
 
 module _ {K : Type 0} (written : K → Option (List ℕ)) (faults : K → ℕ) (streams : Streams) (few : AreFew streams) where
-  pub tried : (sources : List (Ended SureSource)) (w : WriterEnd) (front : Option QueueFront) (outlet : SureOutlet) (k0 k1 : K) (r : Result (Unit {0}) Stop) (exit : ℕ) → is_some front ≡ true → WereCapturedIn streams sources w front outlet
-      → ConcludedSo written faults streams.sources streams.packets sources w (effects (done_of outlet)) k0 k1 r → exit ≡ exit_by r → Tried written faults streams front (Some outlet) k0 k1 exit
-  tried sources w None outlet k0 k1 r exit q c d e = cc
-  tried sources w (Some f) outlet k0 k1 (Ok u) exit q c d e =
+  pub tried : (sources : List (Ended SureSource)) (w : WriterEnd) (f : QueueFront) (outlet : SureOutlet) (k0 k1 : K) (r : Result (Unit {0}) Stop) (exit : ℕ) → WereCaptured streams sources w f outlet
+      → ConcludedSo written faults streams.sources streams.packets sources w (effects (done_of outlet)) k0 k1 r → exit ≡ exit_by r → Tried written faults streams (Some f) (Some outlet) k0 k1 exit
+  tried sources w f outlet k0 k1 (Ok u) exit c d e =
       let all = captured_whole streams sources w f outlet c d.0 in
       record {
         zero_capture = λ z. whole streams (history f) (effects (done_of outlet)) all few.some_sources few.few_sources few.few_packets;
@@ -47,7 +45,7 @@ module _ {K : Type 0} (written : K → Option (List ℕ)) (faults : K → ℕ) (
         six_lines = λ z. absurd (let a : exit ≡ 6 = z in let b : exit ≡ 0 = e in omega arith);
         six_turns = λ z. absurd (let a : exit ≡ 6 = z in let b : exit ≡ 0 = e in omega arith);
       }
-  tried sources w (Some f) outlet k0 k1 (Err stop.Unwritten) exit q c d e =
+  tried sources w f outlet k0 k1 (Err stop.Unwritten) exit c d e =
       let all = captured_whole streams sources w f outlet c d.0 in record {
         zero_capture = λ z. absurd (let a : exit ≡ 0 = z in let b : exit ≡ 4 = e in omega arith);
         zero_lines = λ z. absurd (let a : exit ≡ 0 = z in let b : exit ≡ 4 = e in omega arith);
@@ -57,7 +55,7 @@ module _ {K : Type 0} (written : K → Option (List ℕ)) (faults : K → ℕ) (
         six_lines = λ z. absurd (let a : exit ≡ 6 = z in let b : exit ≡ 4 = e in omega arith);
         six_turns = λ z. absurd (let a : exit ≡ 6 = z in let b : exit ≡ 4 = e in omega arith);
       }
-  tried sources w (Some f) outlet k0 k1 (Err stop.NoMemory) exit q c d e = record {
+  tried sources w f outlet k0 k1 (Err stop.NoMemory) exit c d e = record {
     zero_capture = λ z. absurd (let a : exit ≡ 0 = z in let b : exit ≡ 5 = e in omega arith);
     zero_lines = λ z. absurd (let a : exit ≡ 0 = z in let b : exit ≡ 5 = e in omega arith);
     four_capture = λ z. absurd (let a : exit ≡ 4 = z in let b : exit ≡ 5 = e in omega arith);
@@ -66,7 +64,7 @@ module _ {K : Type 0} (written : K → Option (List ℕ)) (faults : K → ℕ) (
     six_lines = λ z. absurd (let a : exit ≡ 6 = z in let b : exit ≡ 5 = e in omega arith);
     six_turns = λ z. absurd (let a : exit ≡ 6 = z in let b : exit ≡ 5 = e in omega arith);
   }
-  tried sources w (Some f) outlet k0 k1 (Err stop.Worn) exit q c d e = record {
+  tried sources w f outlet k0 k1 (Err stop.Worn) exit c d e = record {
     zero_capture = λ z. absurd (let a : exit ≡ 0 = z in let b : exit ≡ 6 = e in omega arith);
     zero_lines = λ z. absurd (let a : exit ≡ 0 = z in let b : exit ≡ 6 = e in omega arith);
     four_capture = λ z. absurd (let a : exit ≡ 4 = z in let b : exit ≡ 6 = e in omega arith);

@@ -5,8 +5,7 @@ ghost use Rattle.trial_mode.specs.inner.Opened.{IsOpened, AreOpened};
 
 use cap_base::{Name, NoMemory};
 use cap_make::make_source;
-use cap_outside::SureSource;
-use source_thread::Opened;
+use cap_outside::{Opened, SureSource};
 use std::alloc::{AllocError, Global};
 
 fn text_of_name(alloc: Global, which: u8) -> Result<String, AllocError>

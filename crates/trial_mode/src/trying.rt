@@ -1,10 +1,10 @@
-ghost use Rattle.std.specs.Prelude.{◌≡◌, ◌≤◌, ◌↔◌, [], false, IfOk, IfSome, IsNone};
+ghost use Rattle.std.specs.Prelude.{◌≡◌, ◌≤◌, ◌↔◌, [], false, IfOk, IsNone};
 ghost use Rattle.cap_base.specs.declared.limits.TheConstants.{MAX_SOURCES};
 ghost use Rattle.cap_outside.specs.Causes.{one_higher};
 ghost use Rattle.cap_outside.specs.SureOutlet.{done_of, has_current};
 ghost use Rattle.trial_mode.specs.Streams.{streams_from};
 ghost use Rattle.trial_mode.specs.Trials.{Tried, IsTrialExit};
-ghost use Rattle.trial_mode.specs.inner.Ends.{WereCapturedIn};
+ghost use Rattle.trial_mode.specs.inner.Ends.{WereCaptured};
 
 use crate::ending::exit_by;
 use crate::reporting::conclude;
@@ -44,12 +44,15 @@ fn capture_streams<R: Threads + Wait + Sync>(
     requires few_packets { packets ≤ 1000000 }
     requires fresh { done_of outlet.old ≡ [] }
     requires no_file { has_current outlet.old ≡ false }
-    ensures { IfOk result (λ c. WereCapturedIn (streams_from start sources packets) c.sources.items c.writer c.front outlet.new) }
+    ensures { IfOk result (λ c. WereCaptured (streams_from start sources packets) c.sources.items c.writer c.front outlet.new) }
 {
     let settings = settings_of(alloc, sources)?;
     let opened = open_streams(alloc, start, sources, packets)?;
     let mut clock = SureClock::new(Vec::new(alloc));
-    Ok(capture(rt, alloc, &settings, opened, outlet, &mut clock))
+    let Ok(captured) = capture(rt, alloc, &settings, opened, outlet, &mut clock) else {
+        return Err(NoMemory);
+    };
+    Ok(captured)
 }
 
 /// A trial for which memory was wanting before the capture began.
@@ -102,13 +105,10 @@ pub fn trial<K: Sink, R: Threads + Wait + Sync>(
     let Ok(captured) = capture_streams(rt, alloc, start, sources, packets, &mut outlet) else {
         return starved();
     };
-    if captured.front.is_none() {
-        return starved();
-    }
     let end = conclude(alloc, sources, packets, &captured, &outlet, note);
     Trialed {
         exit: exit_by(end),
-        front: captured.front,
+        front: Some(captured.front),
         outlet: Some(outlet),
     }
 }

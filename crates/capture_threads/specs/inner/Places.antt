@@ -3,8 +3,9 @@ use Rattle.std.specs.Prelude.{ℕ, ◌≡◌, ◌+◌, ◌||◌, List, [], ◌�
 use Rattle.std.specs.List.{list_any}
 use Rattle.cap_base.specs.Callers.{own}
 use Rattle.turn_cell.specs.Passes.{IsPassOf, Has, low, high, made, is_worn}
-use Rattle.packet_queue.specs.Ends.{QueueCell, QueuePass, port_source}
-use Rattle.source_thread.specs.declared.ended.Opened.{Opened}
+use Rattle.packet_queue.specs.Ends.{QueueCell, QueuePass, IsPortOf, mine, port_pass, port_source}
+use Rattle.packet_queue.specs.declared.port.Port.{Port}
+use Rattle.cap_outside.specs.declared.opened.Opened.{Opened}
 use Rattle.source_thread.specs.declared.ended.Ended.{Ended}
 use Rattle.capture_threads.specs.declared.place.Place.{Place}
 use Rattle.capture_threads.specs.declared.place.Place.TheVariants.{Ready, Over}
@@ -12,6 +13,23 @@ use Rattle.source_thread.specs.Told.{SourceFacts}
 use Rattle.source_thread.specs.Sources.{EachWasRead}
 use Rattle.capture_threads.specs.Captures.{ends_worn}
 use Rattle.capture_threads.specs.Places.{CanBegin, HasRun, AreRun}
+
+-- a port under this number, which made no call
+pub record IsFreshPort (c : QueueCell) (n : ℕ) (p : Port) : Type 0 where
+  pub port : IsPortOf c p
+  pub fresh : mine (port_pass p) ≡ []
+  pub source : port_source p ≡ n
+
+-- so are several, whose numbers begin with n
+abbrev pub AreFreshPorts : QueueCell → ℕ → List Port → Type 0
+AreFreshPorts c n [] = Unit {0}
+AreFreshPorts c n (p ∷ ps) = IsFreshPort c n p × AreFreshPorts c (n + 1) ps
+
+-- the places of sources with their ports
+abbrev pub paired : {S : Type 0} → List Port → List (Opened S) → List (Place S)
+paired [] opened = []
+paired (p ∷ ports) [] = []
+paired (p ∷ ports) (o ∷ opened) = Ready p o ∷ paired ports opened
 
 abbrev pub IsReady : {S : Type 0} → QueueCell → Place S → Type 0
 IsReady c (Ready port opened) = CanBegin c port opened

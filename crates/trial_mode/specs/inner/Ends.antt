@@ -12,7 +12,7 @@ use Rattle.cap_outside.specs.declared.clock.SureClock.{SureClock}
 use Rattle.cap_outside.specs.declared.outlet.SureOutlet.{SureOutlet}
 use Rattle.cap_outside.specs.declared.source.SureSource.{SureSource}
 use Rattle.source_thread.specs.declared.ended.Ended.{Ended}
-use Rattle.source_thread.specs.declared.ended.Opened.{Opened}
+use Rattle.cap_outside.specs.declared.opened.Opened.{Opened}
 use Rattle.source_thread.specs.Sources.{facts_of}
 use Rattle.source_thread.specs.Told.{SourceFacts}
 use Rattle.writer_thread.specs.declared.writer_end.WriterEnd.{WriterEnd}
@@ -47,10 +47,6 @@ pub record WereCaptured (streams : Streams) (sources : List (Ended SureSource)) 
   pub says0 : ℕ
   pub says1 : ℕ
   pub capture : CaptureIs sure_facts has_done clock.has_read (trial_settings streams.sources) opened sources w f before outlet clock0 clock1 files0 files1 says0 says1
-
-abbrev pub WereCapturedIn : Streams → List (Ended SureSource) → WriterEnd → Option QueueFront → SureOutlet → Type 0
-WereCapturedIn streams sources w None outlet = Unit {0}
-WereCapturedIn streams sources w (Some f) outlet = WereCaptured streams sources w f outlet
 
 abbrev pub is_clean : How → Bool
 is_clean how.Clean = true

@@ -2,7 +2,7 @@
 use Rattle.std.specs.Prelude.{ℕ, ◌+◌, ◌≡◌, List, [], ◌∷◌, IsSomeAnd}
 use Rattle.cap_outside.specs.SureSource.{IsNew}
 use Rattle.cap_outside.specs.declared.source.SureSource.{SureSource}
-use Rattle.source_thread.specs.declared.ended.Opened.{Opened}
+use Rattle.cap_outside.specs.declared.opened.Opened.{Opened}
 use Rattle.trial_mode.specs.Streams.{Streams, stream_of, source_name}
 
 -- a source in memory that has a stream, of which nothing was read, under its name

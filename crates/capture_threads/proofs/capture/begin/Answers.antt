@@ -1,21 +1,22 @@
-use Rattle.std.proofs.Common.{◌≡◌, ap, ◌∙◌, rules, length, vec_len}
-use Rattle.turn_cell.specs.Passes.{start}
-use Rattle.packet_queue.specs.Queue.{limits_of, sources_of}
-use Rattle.capture_threads.proofs.Capturing.{fresh_drain}
+use Rattle.std.proofs.Common.{◌≡◌, ◌+◌, ◌∙◌, ap, subst, sym, rules, arith, length, vec_len, List}
+use Rattle.capture_threads.specs.declared.place.Place.{Place}
+use Rattle.capture_threads.specs.Places.{ArePlaced}
+use Rattle.capture_threads.proofs.Placing.{are_placed}
 use Rattle.capture_threads.proofs.capture.begin.Goals as goal
 
-pub returns : goal.returns
-returns g c =
-    let count : vec_len c.args.opened ≡ length c.args.opened.items = search rules in
-    let sources : sources_of (start c.in_ok-cell.cell) ≡ length c.args.opened.items = ap sources_of c.in_ok-cell.ensures.start ∙ c.in_ok-queue.ensures.sources ∙ c.len-sources.ensures ∙ count in
-    let drain = fresh_drain c.in_ok-cell.cell c.in_ok-places.rest c.new-3.result (length c.args.opened.items) sources c.in_ok-places.ensures.pass c.in_ok-places.ensures.numbers c.in_ok-places.ensures.fresh c.new-3.ensures.drain c.new-3.ensures.pass in
+pub returns-clause-begun : goal.returns-clause-begun
+returns-clause-begun g c =
+    let p = c.in-Ok.ensures in
+    let b = c.in-Ok.prepared in
+    let whole : vec_len c.args.opened ≡ length c.args.opened.items = search rules in
+    let count = c.len.ensures ∙ whole in
     record {
-      limits = ap limits_of c.in_ok-cell.ensures.start ∙ c.in_ok-queue.ensures.limits;
-      sources = sources;
-      counts = search rules;
-      placed = c.in_ok-places.ensures.placed;
-      drain = drain.0;
-      fresh = drain.1;
-      none_ended = c.in_ok-ended.ensures.items;
-      room = search rules;
+      limits = p.limits;
+      sources = p.sources ∙ count;
+      counts = (p.counts.0 ∙ ap (λ n. n + 1) count, p.counts.1);
+      placed = subst (λ (z : List (Place g.row.S.Denot)). ArePlaced b.cell 0 c.args.opened.items z) (sym c.place_sources-places.ensures) (are_placed b.cell 0 b.ports.items c.args.opened.items p.ports (p.as_many ∙ count) c.requires.names);
+      drain = p.drain;
+      fresh = p.fresh;
+      none_ended = p.none_ended;
+      room = omega (arith, p.room_ended, count);
     }

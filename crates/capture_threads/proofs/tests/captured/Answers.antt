@@ -14,5 +14,5 @@ not_worn false true made most spent few = absurd (let e : made ≡ most = spent 
 pub returns : goal.returns
 returns g c few =
     let front = c.finish-sources.result.1 in
-    let captured = c.finish-sources.ensures.captured c.args.opened.items (c.read_and_take.ensures.run c.args.opened.items c.in_ok-cell.ensures.placed) in
+    let captured = c.finish-sources.ensures.captured c.args.opened.items (c.read_and_take.ensures.run c.args.opened.items c.in-Ok.ensures.begun.placed) in
     c.read_and_take.ensures.done (ap worn_pass (sym c.into_pass.ensures) ∙ not_worn (list_any ends_worn c.finish-sources.result.0.items) (worn_pass c.into_pass.result) (turns_made front) (2 ^ 56) captured.spent few)

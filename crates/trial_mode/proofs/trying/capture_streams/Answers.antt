@@ -16,5 +16,7 @@ pub capture-requires-clause-names : goal.capture-requires-clause-names
 capture-requires-clause-names g c κs within = short_names (streams_from c.args.start c.args.sources c.args.packets) 0 c.in_ok-opened.opened.items (omega (arith, c.in_ok-opened.ensures.all, c.requires.few_sources)) c.in_ok-opened.ensures.opened
 
 pub returns : goal.returns
-returns g c = were_captured (streams_from c.args.start c.args.sources c.args.packets) c.capture.result.sources.items c.capture.result.writer c.capture.result.front c.in_ok-opened.opened.items c.in_ok-settings.settings c.args.outlet.now c.capture.new.outlet c.new-clock.result c.capture.new.clock _ _ _ _
-    c.in_ok-opened.ensures.opened c.in_ok-opened.ensures.all c.requires.fresh c.in_ok-settings.ensures c.capture.ensures.captured
+returns g c =
+    let captured = c.in-Ok.captured in
+    were_captured (streams_from c.args.start c.args.sources c.args.packets) captured.sources.items captured.writer captured.front c.in_ok-opened.opened.items c.in_ok-settings.settings c.args.outlet.now c.capture.new.outlet c.new-clock.result c.capture.new.clock _ _ _ _
+    c.in_ok-opened.ensures.opened c.in_ok-opened.ensures.all c.requires.fresh c.in_ok-settings.ensures c.in-Ok.ensures.captured
