@@ -31,7 +31,8 @@ Measured = collections.namedtuple("Measured", "seconds spent user system memory 
 def parser_of(text):
     """The parser of a script's words, with the option that says where the program lies."""
     parser = argparse.ArgumentParser(description=text, formatter_class=argparse.RawDescriptionHelpFormatter)
-    parser.add_argument("--program", default=built, metavar="PATH", help="the program to measure")
+    program = os.environ.get("DUMPCAP", built)
+    parser.add_argument("--program", default=program, metavar="PATH", help="the program; else the one that DUMPCAP names, or the built one")
     return parser
 
 

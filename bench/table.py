@@ -2,13 +2,15 @@
 """table.py: how fast captures from FIFOs are that cat feeds at full speed, beside other tools, in a table for each part.
 
 Part a has one FIFO of 64-byte packets through this dumpcap, Wireshark's, tcpdump, editcap and cat; b one of 1500-byte packets; c a
-pcapng source beside a classic one; d several FIFOs that have the packets together; e small queues. Each line is the best of several
-runs, in which the tools of a part take turns: packets sent a second, packets a second that stand in the output, processor time of all
-threads of the tool (not of the feeding cat) for each packet sent, its most memory, packets sent that aren't in the output, what its
-report says of them, and the packets a second in the output as a ratio to this dumpcap's in the part. Each output is counted: where this
-dumpcap's hasn't all packets, or its exit isn't 0, the line says so and the script ends with 1. The files are in memory. It is run by
-hand."""
+pcapng source beside a classic one; d several FIFOs that have the packets together; e small queues; f a pcapng FIFO through `pass`,
+beside editcap, a capture and cat; g a ring of a hundred files through `join`, beside mergecap, and beside `check` of each file and one
+cat of all. Each line is the best of several runs, in which the tools of a part take turns: packets sent a second, packets a second that
+stand in the output, processor time of all threads of the tool (not of the feeding cat) for each packet sent, its most memory, packets
+sent that aren't in the output, what its report says of them, and the packets a second in the output as a ratio to this dumpcap's in the
+part. Each output is counted: where this dumpcap's hasn't all packets, or its exit isn't 0, the line says so and the script ends with 1.
+The files are in memory. It is run by hand."""
 import os
+import subprocess
 import sys
 
 sys.dont_write_bytecode = True
@@ -70,7 +72,7 @@ class Parts:
 
     def __init__(self, options, folder):
         self.options, self.folder = options, folder
-        self.tools = base.installed("dumpcap", "tcpdump", "editcap", "cat")
+        self.tools = base.installed("dumpcap", "tcpdump", "editcap", "mergecap", "cat")
 
     def ours(self, name, stream, sources, packets, *more):
         """A line of this dumpcap."""
@@ -151,12 +153,47 @@ class Parts:
             fine &= self.measure(f"e. Small queues, FIFOs: {sources}, with {packets:,} packets of 64 bytes in all (-C in bytes)", lines)
         return fine
 
+    def f(self):
+        """A pcapng source that is passed on."""
+        packets = self.options.packets
+        stream = self.stream(packets, write=base.write_pcapng)
+        words = lambda fifos, out: [self.options.program, "pass", fifos[0], out]
+        lines = [Line("this dumpcap pass", words, stream, 1, packets, ours=True), *self.others(stream, packets, "editcap", "cat")]
+        lines.append(self.ours("this dumpcap, a capture", stream, 1, packets))
+        return self.measure(f"f. One pcapng FIFO, {packets:,} packets of 64 bytes, passed on", lines)
+
+    def g(self):
+        """The files of a ring, joined."""
+        files = self.ring(self.options.joined)
+        packets, program = base.packets_of(*files), self.options.program
+        most = max(map(os.path.getsize, files)) / 1e6
+        print(f"the ring's largest file has {most:.1f} MB", flush=True)
+        each = 'program=$0; for name; do "$program" check "$name" >/dev/null || exit 1; done; cat "$@"'
+        lines = [Line("this dumpcap join", lambda _, out: [program, "join", out, *files], None, 0, packets, ours=True)]
+        if "mergecap" in self.tools:
+            lines.append(Line("mergecap -a -w OUT", lambda _, out: ["mergecap", "-a", "-w", out, *files], None, 0, packets))
+        lines.append(Line("check of each, cat of all", lambda _, out: ["sh", "-c", each, program, *files], None, 0, packets, copies=True))
+        fine = self.measure(f"g. {len(files)} files of a ring with {packets:,} packets of 64 bytes, joined", lines)
+        for name in files:
+            base.remove(name)
+        return fine
+
+    def ring(self, packets):
+        """The names of a hundred files, in order, with so many packets together, as this dumpcap captures them."""
+        stream, words = self.stream(packets), ["-b", f"packets:{packets // 100}"]
+        done = subprocess.run(base.capture_words(self.options.program, [stream], os.path.join(self.folder, "ring"), *words), stderr=subprocess.DEVNULL)
+        files = sorted(os.path.join(self.folder, name) for name in os.listdir(self.folder) if name.startswith("ring_"))
+        if done.returncode or not files:
+            sys.exit(f"table.py: no ring was made, exit {done.returncode}")
+        return files
+
 
 def main():
     """Reads the words and runs the parts that they ask for."""
     parser = base.parser_of(__doc__)
-    parser.add_argument("--parts", default="abcde", help="letters of parts (abcde)")
-    parser.add_argument("--packets", type=int, default=2_000_000, help="64-byte packets of parts a, c and d (2000000)")
+    parser.add_argument("--parts", default="abcdefg", help="letters of parts (abcdefg)")
+    parser.add_argument("--packets", type=int, default=2_000_000, help="64-byte packets of parts a, c, d and f (2000000)")
+    parser.add_argument("--joined", type=int, default=1_000_000, help="64-byte packets of part g (1000000)")
     parser.add_argument("--large", type=int, default=400_000, help="1500-byte packets of part b (400000)")
     parser.add_argument("--few", type=int, default=200_000, help="packets of part e (200000)")
     parser.add_argument("--runs", type=int, default=3, help="runs of each line, of which the best counts (3)")

@@ -1,14 +1,14 @@
 #!/usr/bin/env bash
 # Follows a file that grows: a writer appends blocks to a pcapng file and says messages into a FIFO, and the lines of
 # ./dumpcap follow have to come before it goes on. File and messages are spelled here from docs/formats.md alone.
-# It is run by hand. --program PATH runs another program than ./dumpcap.
+# It is run by hand. DUMPCAP=PATH or --program PATH runs another program than ./dumpcap.
 set -u
 top=$(cd "$(dirname "$0")/.." && pwd)
 if ! command -v python3 >/dev/null; then
     echo "skipped: python3 is not installed"
     exit 0
 fi
-program=$top/dumpcap
+program=${DUMPCAP:-$top/dumpcap}
 if [ "${1-}" = --program ]; then
     program=$2
 fi

@@ -1,13 +1,17 @@
 #!/usr/bin/env bash
 # Runs captures that other tools made through ./dumpcap, and asks capinfos and tshark about what comes out:
 # it has to open, and to have the same packets, times and lengths. A tool that isn't installed is skipped with a line.
-# DUMPCAP names another program. It is run by hand, and needs no rights: no interface is opened.
+# DUMPCAP names another program, and PACKETS says how many packets are joined and watched (1,000,000, of which tshark takes minutes).
+# It is run by hand, and needs no rights: no interface is opened.
 set -u
 top=$(cd "$(dirname "$0")/.." && pwd)
 dumpcap=${DUMPCAP:-$top/dumpcap}
 sample=$top/samples/ping.pcap
+packets=${PACKETS:-1000000}
 work=$(mktemp -d)
-trap 'rm -rf "$work"' EXIT
+# What still waits at a FIFO of a part that failed ends with the script.
+trap 'kill $(jobs -p) 2>/dev/null; rm -rf "$work"' EXIT
+trap 'exit 143' TERM INT
 passed=0
 failed=0
 skipped=0
@@ -50,10 +54,11 @@ opens() { # opens FILE PACKETS: both tools open the file, and find so many packe
     verdict "$name" $? "${count:-no} packets, wanted $2"
 }
 
-# Time, captured length, original length, protocols and all bytes of each packet.
-facts() {
-    tshark -n -r "$1" -T fields -e frame.time_epoch -e frame.cap_len -e frame.len -e frame.protocols &&
-        tshark -n -r "$1" -x
+# Time, captured length, original length, protocols and all bytes of each packet, or of those of a protocol: tshark shows custom
+# blocks as packets, too.
+facts() { # facts FILE [PROTOCOL]
+    tshark -n -r "$1" ${2:+-Y "$2"} -T fields -e frame.time_epoch -e frame.cap_len -e frame.len -e frame.protocols &&
+        tshark -n -r "$1" ${2:+-Y "$2"} -x
 }
 
 through() { # through NAME FILE WANTED_STATUS WORDS..: captures FILE, with further words
@@ -234,6 +239,140 @@ status=$?
 [ "$status" = 0 ] && [ "$(grep -c '^packet ' "$work/lines")" = 6 ] && grep -q "^file $work/told.pcapng\$" "$work/lines"
 verdict follow $? "exit $status: $(tail -n 1 "$work/lines")"
 opens "$work/told.pcapng" 6
+
+# What pass copies: the packets, and byte for byte and in place the blocks of names, secrets and custom blocks.
+passes() { # passes NAME IN BLOCKS: so many blocks are passed on; and tshark finds the packets of IN
+    local out=$work/$1-passed.pcapng count=none
+    "$dumpcap" pass "$2" "$out" >"$work/$1.lines" 2>&1 &&
+        count=$(python3 "$top/interop/passed.py" "$2" "$out" 2>"$work/$1.why") &&
+        [ "$count" = "$3" ] && grep -q "^passed $3\$" "$work/$1.lines" &&
+        facts "$2" eth >"$work/$1.want" 2>/dev/null && facts "$out" eth >"$work/$1.have" 2>/dev/null && cmp -s "$work/$1.want" "$work/$1.have"
+    verdict "$1" $? "$count blocks passed on, wanted $3: $(cat "$work/$1.lines" "$work/$1.why" 2>/dev/null | xargs)"
+}
+
+# What tshark reads of the session in a file: the name that the client asked for.
+asked_in() {
+    tshark -n -r "$1" -Y http.request -T fields -e http.request.uri 2>/dev/null
+}
+
+if has tshark && has python3; then
+    python3 "$top/interop/passed.py" --make "$work/blocks.pcapng"
+    passes blocks "$work/blocks.pcapng" 6
+    if has editcap && has openssl; then
+        # A session that tshark can read with its keys alone, which editcap puts into the file, has to be read from the copy too.
+        python3 "$top/interop/secrets.py" "$work"
+        editcap --inject-secrets "tls,$work/tls.keys" "$work/tls.pcap" "$work/secrets.pcapng"
+        passes secrets "$work/secrets.pcapng" 1
+        [ -z "$(asked_in "$work/tls.pcap")" ] && [ "$(asked_in "$work/secrets-passed.pcapng")" = /in-the-clear-only-with-keys ]
+        verdict secrets-are-used $? "without them $(asked_in "$work/tls.pcap"), with them $(asked_in "$work/secrets-passed.pcapng")"
+        # A capture doesn't have them.
+        "$dumpcap" -i "$work/secrets.pcapng" -w "$work/no-secrets.pcapng" 2>/dev/null && [ -z "$(asked_in "$work/no-secrets.pcapng")" ]
+        verdict capture-drops-secrets $? "$(asked_in "$work/no-secrets.pcapng")"
+    else
+        skip "editcap or openssl isn't installed, so no secrets are passed on"
+    fi
+else
+    skip "tshark or python3 isn't installed, so nothing is passed on"
+fi
+
+# Words whose output is one of their inputs are refused, and leave it as it is.
+kept() { # kept NAME WORDS..: the words name the file kept.pcapng as an output and an input
+    local status
+    cp "$work/sample.pcapng" "$work/kept.pcapng"
+    (cd "$work" && "$dumpcap" "${@:2}") >"$work/kept.out" 2>&1
+    status=$?
+    [ "$status" = 1 ] && [ "$(cat "$work/kept.out")" = "dumpcap: conflicting words" ] && cmp -s "$work/sample.pcapng" "$work/kept.pcapng"
+    verdict "$1" $? "exit $status: $(head -n 1 "$work/kept.out")"
+}
+kept capture-into-its-source -i kept.pcapng -w kept.pcapng
+kept pass-into-its-source pass kept.pcapng kept.pcapng
+kept join-into-an-input join kept.pcapng sample.pcapng kept.pcapng
+
+# Two streams of the generator, in all so many packets.
+has_streams=
+streams() {
+    [ -n "$has_streams" ] || { "$dumpcap" make 7 2 "$packets" "$work/stream" >"$work/streams.lines" 2>&1 && has_streams=1; }
+}
+
+# The counts of statistics that check finds in a file, a line for each interface.
+counts_in() {
+    "$dumpcap" check "$1" | sed -n 's/^interface \([0-9]*\) packets [0-9]* /\1 /p'
+}
+
+# How many packets capinfos finds in files together.
+sum_of() {
+    local file sum=0 count
+    for file; do
+        count=$(capinfos -Mc "$file" 2>/dev/null | sed -n 's/^Number of packets: *//p')
+        [ -n "$count" ] || return 1
+        sum=$((sum + count))
+    done
+    echo "$sum"
+}
+
+# Time, lengths and interface of each packet.
+heads() {
+    tshark -n -r "$1" -T fields -e frame.time_epoch -e frame.cap_len -e frame.len -e frame.interface_name
+}
+
+# A ring of a hundred files, joined: as many packets as the files have together, those that mergecap finds, in the same order; a whole
+# output file, with the statistics of the last file.
+joining() {
+    local files last
+    mkdir "$work/joins"
+    streams || return 1
+    "$dumpcap" -i "$work/stream0" -i "$work/stream1" -w "$work/joins/o.pcapng" -b "packets:$((packets / 100))" 2>/dev/null || return 1
+    files=("$work/joins"/o_*.pcapng)
+    last=${files[${#files[@]} - 1]}
+    "$dumpcap" join "$work/joined.pcapng" "${files[@]}" >"$work/join.lines" || return 1
+    [ "$(cat "$work/join.lines")" = "files ${#files[@]}"$'\n'"packets $packets" ] || return 1
+    [ "$(sum_of "${files[@]}")" = "$packets" ] && [ "$(sum_of "$work/joined.pcapng")" = "$packets" ] || return 1
+    [ -n "$(counts_in "$last")" ] && [ "$(counts_in "$last")" = "$(counts_in "$work/joined.pcapng")" ] || return 1
+    mergecap -a -w "$work/merged.pcapng" "${files[@]}" || return 1
+    heads "$work/merged.pcapng" >"$work/join.want" 2>/dev/null && heads "$work/joined.pcapng" >"$work/join.have" 2>/dev/null || return 1
+    [ "$(wc -l <"$work/join.have")" = "$packets" ] && cmp -s "$work/join.want" "$work/join.have"
+}
+
+# One file of a ring is joined into itself. Of files whose descriptions differ, and of a torn one, the first such is told.
+joining_few() {
+    cp "$work/joins/o_00001_"*.pcapng "$work/one.pcapng"
+    "$dumpcap" join "$work/itself.pcapng" "$work/one.pcapng" >/dev/null && cmp -s "$work/one.pcapng" "$work/itself.pcapng" || return 1
+    "$dumpcap" join "$work/none.pcapng" "$work/sample.pcapng" "$work/one.pcapng" >"$work/differ.lines"
+    [ $? = 9 ] && [ "$(cat "$work/differ.lines")" = "fault differ at description 0 in $work/one.pcapng" ] || return 1
+    "$dumpcap" join "$work/none.pcapng" "$work/torn.pcapng" "$work/one.pcapng" >"$work/torn.lines"
+    [ $? = 7 ] && grep -q "^fault short at [0-9]* in $work/torn.pcapng\$" "$work/torn.lines"
+}
+
+# A capture of two FIFOs into several files, whose messages eight readers watch beside it: the totals are what stands in the files.
+watching() {
+    local files last dropped wanted
+    mkdir "$work/watches"
+    streams || return 1
+    mkfifo "$work/watches/0" "$work/watches/1" "$work/watches/messages"
+    cat "$work/stream0" >"$work/watches/0" &
+    cat "$work/stream1" >"$work/watches/1" &
+    "$dumpcap" watch "$work/watches/messages" 8 >"$work/watch.lines" &
+    local watcher=$!
+    "$dumpcap" -i "$work/watches/0" -i "$work/watches/1" -w "$work/watches/o.pcapng" -b "packets:$((packets / 4))" --sync 2>"$work/watches/messages" || return 1
+    wait "$watcher" || return 1
+    files=("$work/watches"/o_*.pcapng)
+    last=${files[${#files[@]} - 1]}
+    dropped=$(counts_in "$last" | awk '{ sum += $5 } END { print sum + 0 }')
+    wanted="files ${#files[@]}"$'\n'"packets $(sum_of "${files[@]}")"$'\n'"drops $dropped"$'\n'"readers 8"
+    [ "$(cat "$work/watch.lines")" = "$wanted" ]
+}
+
+if has capinfos && has tshark && has mergecap; then
+    joining
+    verdict join $? "$(head -n 3 "$work/join.lines" 2>&1 | xargs)"
+    joining_few
+    verdict join-few $? "$(head -n 1 "$work/differ.lines" 2>&1)"
+    rm -rf "$work/joins" "$work/joined.pcapng" "$work/merged.pcapng" "$work"/join.want "$work"/join.have
+    watching
+    verdict watch $? "$(xargs <"$work/watch.lines" 2>&1)"
+else
+    skip "capinfos, tshark or mergecap isn't installed, so nothing is joined or watched"
+fi
 
 echo "$passed passed, $failed failed, $skipped skipped"
 [ "$failed" = 0 ]
