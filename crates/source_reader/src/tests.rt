@@ -436,6 +436,16 @@ fn blocks_of_unknown_types_are_passed_over(rt: HostRuntime) -> Result<(), Fail> 
     Ok(())
 }
 
+/// Gives a reader one spare body, of which it has none, and takes back what is left.
+fn give_spare(rt: &impl Abort, alloc: Global, reader: &mut Reader) -> Result<Spares, Fail> {
+    let mut spares = Spares::new(alloc)?;
+    spares.put(Octets::from_slice(alloc, &LONG_SECTION)?);
+    assert!(rt; !reader.wants_spares());
+    let spares = reader.refill(spares);
+    assert_eq!(rt; spares.len(), 1);
+    Ok(spares)
+}
+
 /// Reads two packets behind a head, with one spare body.
 fn reads_in_spare_memory(
     rt: &impl Abort,
@@ -445,14 +455,10 @@ fn reads_in_spare_memory(
     want: &str,
 ) -> Result<(), Fail> {
     let mut reader = Reader::new(alloc, Name::from_text(alloc, "a")?, None)?;
-    let mut spares = Spares::new(alloc)?;
-    spares.put(Octets::from_slice(alloc, &LONG_SECTION)?);
-    assert!(rt; !reader.wants_spares());
-    let spares = reader.refill(spares);
-    assert_eq!(rt; spares.len(), 1);
-    feed(&mut reader, head)?;
-    feed(&mut reader, packet)?;
-    feed(&mut reader, packet)?;
+    let spares = give_spare(rt, alloc, &mut reader)?;
+    for piece in [head, packet, packet] {
+        feed(&mut reader, piece)?;
+    }
     assert!(rt; reader.wants_spares());
     assert_eq!(rt; reader.refill(spares).len(), 0);
     assert!(rt; !reader.wants_spares());
