@@ -1,14 +1,12 @@
 //! The capture that the words of a command line ask for.
-ghost use Rattle.std.specs.Prelude.{◌≡◌, ◌<◌, ◌≤◌, ◌^◌, ◌⊎◌, length, map, [], false, vec_capacity, IfSome, IsNone};
+ghost use Rattle.std.specs.Prelude.{◌≡◌, ◌≤◌, ◌⊎◌, length, map, [], false, vec_capacity, IfSome, IsNone};
 ghost use Rattle.std.specs.List.{count_by};
 ghost use Rattle.cap_base.specs.Lawful.{AreLawful};
 ghost use Rattle.cap_outside.specs.Causes.{one_higher};
-ghost use Rattle.turn_cell.specs.Passes.{turns_made};
 ghost use Rattle.source_thread.specs.declared.ended.Ended.{Ended as EndedSource};
-ghost use Rattle.source_thread.specs.Sources.{facts_of};
-ghost use Rattle.capture_run.specs.Command.{CommandIs, RoseBy};
+ghost use Rattle.capture_run.specs.Command.{RoseBy};
 ghost use Rattle.capture_mode.specs.Opening.{is_lost};
-ghost use Rattle.capture_mode.specs.Outcomes.{IsCaptureExit, IsUnbegun, AreTurnsLeft, HadMemory, EachSource, IsContent};
+ghost use Rattle.capture_mode.specs.Outcomes.{Captures, IsCaptureExit, AreTurnsLeft, EachSource, EndsClosed, IsContent, objects};
 ghost use Rattle.capture_mode.specs.inner.Opened.{unread};
 
 use crate::exits::exit_of;
@@ -69,9 +67,7 @@ pub fn run_capture<O: Opener, L: Outlet, C: Clock, R: Threads + Wait + Sync>(
 ) -> Outcome<O::Source>
     requires settings { AreLawful settings.now }
     requires no_file { L.has_file outlet.old ≡ false }
-    ensures captured { IfSome result.front (λ f. CommandIs O.opened (O.content opener.old) (facts_of O.Source.taken O.Source.left O.Source.ends O.Source.faults) L.stands_for C.has_read settings.now result.exit result.sources.items f opener.old opener.new outlet.old outlet.new clock.old clock.new
-        (O.faults opener.old) (O.faults opener.new) (L.file_faults outlet.old) (L.file_faults outlet.new) (L.say_faults outlet.old) (L.say_faults outlet.new)) }
-    ensures none { IsNone result.front → IsUnbegun O.opened (O.content opener.old) (facts_of O.Source.taken O.Source.left O.Source.ends O.Source.faults) settings.now.sources result.exit result.sources.items opener.old opener.new outlet.old outlet.new clock.old clock.new (O.faults opener.old) (O.faults opener.new) }
+    ensures captured { Captures O.Opener O.Source.Source L.Outlet C.Clock settings.now result (objects opener.old outlet.old clock.old) (objects opener.new outlet.new clock.new) }
     // each source came back, in order, with its name
     ensures names { IfSome result.front (λ _. map (λ (e : EndedSource O.Source). e.name) result.sources.items ≡ settings.now.sources) }
     ensures exits { IsCaptureExit result.exit }
@@ -83,8 +79,8 @@ pub fn run_capture<O: Opener, L: Outlet, C: Clock, R: Threads + Wait + Sync>(
     ensures say_seen { AreTurnsLeft result.front → ¬ (result.exit ≡ 3) → ¬ (result.exit ≡ 4) → L.say_faults outlet.new ≡ L.say_faults outlet.old }
     // so it may be called again
     ensures closed { (result.exit ≡ 0) ⊎ (result.exit ≡ 2) → L.has_file outlet.new ≡ false }
-    ensures closed_unsaid { result.exit ≡ 4 → IfSome result.front (λ f. turns_made f < 2 ^ 56 → HadMemory (length settings.now.sources) f → L.has_file outlet.new ≡ false) }
-    ensures closed_starved { result.exit ≡ 5 → IfSome result.front (λ f. turns_made f < 2 ^ 56 → HadMemory (length settings.now.sources) f → L.has_file outlet.new ≡ false) }
+    ensures closed_unsaid { result.exit ≡ 4 → IfSome result.front (EndsClosed settings.now.sources (L.has_file outlet.new)) }
+    ensures closed_starved { result.exit ≡ 5 → IfSome result.front (EndsClosed settings.now.sources (L.has_file outlet.new)) }
     ensures content { EachSource (IsContent (O.content opener.old) O.Source.taken O.Source.left) result.sources.items }
 {
     let Ok(room) = Vec::with_capacity(alloc, settings.sources.len()) else {

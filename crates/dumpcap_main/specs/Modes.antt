@@ -10,10 +10,11 @@ use Rattle.capture_options.specs.declared.mode.Mode.{Mode}
 use Rattle.capture_options.specs.declared.mode.Mode.TheVariants.{Capture, Check, Classic, Follow, JoinFiles, Make, Pass, Trial, Watch}
 use Rattle.capture_options.specs.declared.mode.WordFault.{WordFault}
 use Rattle.capture_options.specs.declared.mode.WordFault.TheVariants.{Unknown}
+use Rattle.capture_mode.specs.Outcomes.{Captures, objects as capture_objects}
 use Rattle.capture_mode.specs.declared.outcome.Outcome.{Outcome}
 use Rattle.make_mode.specs.Making.{ordered}
 use Rattle.trial_mode.specs.Streams.{streams_from}
-use Rattle.dumpcap_main.specs.Command.{Captures, CheckIs, FollowIs, JoinsIs, MakeIs, PassIs, TrialIs, WatchesIs, IsAccounted, IsStarved}
+use Rattle.dumpcap_main.specs.Command.{CheckIs, FollowIs, JoinsIs, MakeIs, PassIs, TrialIs, WatchesIs, IsAccounted, IsStarved}
 use Rattle.dumpcap_main.specs.Refusals.{SaysDefect}
 
 -- ---- the objects of a command
@@ -52,7 +53,7 @@ Refuses m defects outcome a b = (b.opener ≡ a.opener) × (b.note ≡ a.note) �
 -- words that ask for them are refused as unknown.
 abbrev pub DoesMode : {O S L K C V : Type 0} → Meanings O S L K C V → Result Mode (List WordFault) → Outcome S → Objects O L K C V → Objects O L K C V → Type 0
 DoesMode m (Ok (Capture settings)) outcome a b = (b.note ≡ a.note) × (b.view ≡ a.view)
-    × Captures m.opener m.source m.outlet m.clock settings outcome a.opener b.opener a.outlet b.outlet a.clock b.clock
+    × Captures m.opener m.source m.outlet m.clock settings outcome (capture_objects a.opener a.outlet a.clock) (capture_objects b.opener b.outlet b.clock)
     × IsAccounted m.opener m.outlet settings outcome a.opener b.opener a.outlet b.outlet
 DoesMode m (Ok (Check name)) outcome a b = (b.outlet ≡ a.outlet) × (b.clock ≡ a.clock) × (b.view ≡ a.view)
     × CheckIs m.opener m.source m.note name outcome a.opener b.opener a.note b.note

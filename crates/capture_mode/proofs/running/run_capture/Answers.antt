@@ -5,19 +5,19 @@ use Rattle.source_thread.specs.declared.ended.Ended.{Ended}
 use Rattle.capture_run.specs.Exits.{exit_by}
 use Rattle.capture_run.proofs.Command.{gives}
 use Rattle.capture_mode.specs.inner.Opened.{SomeWereOpened}
-use Rattle.capture_mode.proofs.Endings.{contents_kept, exit_is, names_few, names_kept, rose_by_lost}
+use Rattle.capture_mode.proofs.Endings.{contents_kept, exit_is, names_few, names_kept, never_begun, rose_by_lost}
 use Rattle.capture_mode.proofs.Openings.{all_are_some, came_back, contents_back, none_of, opened_length, some_length}
 use Rattle.capture_mode.proofs.running.run_capture.Goals as goal
 
-pub returns-in_default-clause-none : goal.returns-in_default-clause-none
-returns-in_default-clause-none g c none =
+pub returns-in_default-clause-captured : goal.returns-in_default-clause-captured
+returns-in_default-clause-captured g c =
     let facts = facts_of g.O.Source.Source.taken g.O.Source.Source.left g.O.Source.Source.ends g.O.Source.Source.faults in
-    record {
+    never_begun _ c.unbegun.result.front c.unbegun.ensures.front (record {
       number = c.unbegun.ensures.exit;
       opener = came_back g.O.Opener.opened (g.O.Opener.content c.args.opener.now) facts c.args.settings.now.sources c.new.result.items c.unbegun.result.sources.items c.args.opener.now c.args.opener.now (g.O.Opener.faults c.args.opener.now) (g.O.Opener.faults c.args.opener.now) c.unbegun.ensures.sources (none_of g.O.Opener.opened (g.O.Opener.content c.args.opener.now) facts c.args.settings.now.sources c.new.result.items c.args.opener.now (g.O.Opener.faults c.args.opener.now) c.new.ensures.items);
       outlet = refl;
       clock = refl;
-    }
+    })
 
 pub unbegun-requires-in-Err-clause-room : goal.unbegun-requires-in-Err-clause-room
 unbegun-requires-in-Err-clause-room g c =
@@ -25,15 +25,15 @@ unbegun-requires-in-Err-clause-room g c =
     let room : vec_capacity c.in-Ok.room ≡ length c.args.settings.now.sources = search rules in
     omega (arith, room, some_length g.O.Opener.opened (g.O.Opener.content c.args.opener.now) facts c.args.settings.now.sources c.in-Err.opened.items c.args.opener.now c.open_sources.new.opener (g.O.Opener.faults c.args.opener.now) (g.O.Opener.faults c.open_sources.new.opener) c.in-Err.ensures.some)
 
-pub returns-in-Err-clause-none : goal.returns-in-Err-clause-none
-returns-in-Err-clause-none g c none =
+pub returns-in-Err-clause-captured : goal.returns-in-Err-clause-captured
+returns-in-Err-clause-captured g c =
     let facts = facts_of g.O.Source.Source.taken g.O.Source.Source.left g.O.Source.Source.ends g.O.Source.Source.faults in
-    record {
+    never_begun _ c.unbegun-in-Err.result.front c.unbegun-in-Err.ensures.front (record {
       number = c.unbegun-in-Err.ensures.exit;
       opener = came_back g.O.Opener.opened (g.O.Opener.content c.args.opener.now) facts c.args.settings.now.sources c.in-Err.opened.items c.unbegun-in-Err.result.sources.items c.args.opener.now c.open_sources.new.opener (g.O.Opener.faults c.args.opener.now) (g.O.Opener.faults c.open_sources.new.opener) c.unbegun-in-Err.ensures.sources c.in-Err.ensures.some;
       outlet = refl;
       clock = refl;
-    }
+    })
 
 pub returns-in-Err-clause-content : goal.returns-in-Err-clause-content
 returns-in-Err-clause-content g c =
@@ -57,15 +57,15 @@ unbegun-requires-in-Err-capture-clause-room g c =
     let room : vec_capacity c.in-Ok.room ≡ length c.args.settings.now.sources = search rules in
     omega (arith, room, ap length c.in-Err-capture.ensures.back, opened_length facts (g.O.Opener.content c.args.opener.now) c.args.settings.now.sources c.in-Ok-open_sources.opened.items c.in-Ok-open_sources.ensures.opened.are)
 
-pub returns-in-Err-capture-clause-none : goal.returns-in-Err-capture-clause-none
-returns-in-Err-capture-clause-none g c none =
+pub returns-in-Err-capture-clause-captured : goal.returns-in-Err-capture-clause-captured
+returns-in-Err-capture-clause-captured g c =
     let facts = facts_of g.O.Source.Source.taken g.O.Source.Source.left g.O.Source.Source.ends g.O.Source.Source.faults in
-    record {
+    never_begun _ c.unbegun-in-Err-capture.result.front c.unbegun-in-Err-capture.ensures.front (record {
       number = c.unbegun-in-Err-capture.ensures.exit;
       opener = came_back g.O.Opener.opened (g.O.Opener.content c.args.opener.now) facts c.args.settings.now.sources c.in-Err-capture.opened.items c.unbegun-in-Err-capture.result.sources.items c.args.opener.now c.open_sources.new.opener (g.O.Opener.faults c.args.opener.now) (g.O.Opener.faults c.open_sources.new.opener) c.unbegun-in-Err-capture.ensures.sources (subst (λ (z : List (Opened g.row.O-Source.Denot)). SomeWereOpened g.O.Opener.opened (g.O.Opener.content c.args.opener.now) facts c.args.settings.now.sources z c.args.opener.now c.open_sources.new.opener (g.O.Opener.faults c.args.opener.now) (g.O.Opener.faults c.open_sources.new.opener)) (sym c.in-Err-capture.ensures.back) (all_are_some g.O.Opener.opened (g.O.Opener.content c.args.opener.now) facts c.args.settings.now.sources c.in-Ok-open_sources.opened.items c.args.opener.now c.open_sources.new.opener (g.O.Opener.faults c.args.opener.now) (g.O.Opener.faults c.open_sources.new.opener) c.in-Ok-open_sources.ensures.opened));
       outlet = c.in-Err-capture.ensures.none.0;
       clock = c.in-Err-capture.ensures.none.1;
-    }
+    })
 
 pub returns-in-Err-capture-clause-content : goal.returns-in-Err-capture-clause-content
 returns-in-Err-capture-clause-content g c =
